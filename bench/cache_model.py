@@ -50,6 +50,11 @@ def bound_of(shards, pages, regions=1):
     return (pages // SEGMENT_PAGES - (regions if shards == 1 else TICKETS + 1 + regions)) * DENSE
 
 
+def floor_of(pages, regions=1):
+    """Up to so many live bytes no row may go, whatever is lent."""
+    return (pages // SEGMENT_PAGES - (TICKETS + 1 + regions)) * DENSE
+
+
 class Cache:
     """The rows of a shard by the order of use, the one used longest ago first (LRU), and their keys in order.
 

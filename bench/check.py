@@ -1,7 +1,7 @@
 #!/usr/bin/env python3
 """Replays the journals of a report, and sees that all that it says is so.
 
-    bench/check.py TRACE REPORT [--shards N] [--pages N]
+    bench/check.py TRACE REPORT [--shards N] [--pages N] [--verdict]
 
 REPORT is what `run` or `sim` wrote of TRACE with these options; without them it is one shard of 8,192 pages. Nothing
 here is the program's: the caches, the hash of a key and the sizes are those of `cache_model.py`. It goes along the
@@ -10,11 +10,19 @@ parts of one origin in order; that a row which goes is the one used longest ago,
 a shard of so many pages may hold; that each reply is the cache's at that point, and a scan's the first keys of its
 table that were found at all shards; and that the last lines say what the caches hold, and how many parts went to
 another shard or came from one. Every byte of the report is compared. A trace may be of version 1 or 2.
+
+With --verdict it says what the mode `audit` should: `legal`, or `illegal line K`. The lines of the journals are looked at
+first, then the journals, where a row may go while more bytes are live than the floor, and then each line.
 """
 import argparse
+import re
 import sys
 
-from cache_model import Cache, bound_of, commands_of, owner_of, regions_of
+from cache_model import Cache, bound_of, commands_of, floor_of, owner_of, regions_of
+
+
+class Wrong(Exception):
+    """What is wrong with a report."""
 
 
 def owners_of(commands, shards):
@@ -38,17 +46,17 @@ def replay(shard, shards, entries, commands, owners, bound):
         where = f"in the journal of shard {shard}, {entry.decode(errors='replace')}"
         if entry.startswith(b"!"):
             if cache.live <= bound:
-                sys.exit(f"{where}: a row goes at {cache.live} live bytes, which are not above {bound}")
+                raise Wrong(f"{where}: a row goes at {cache.live} live bytes, which are not above {bound}")
             evicted.append(cache.live)
             if number_in(entry[1:]) != cache.evict():
-                sys.exit(f"{where}: another row was used longest ago")
+                raise Wrong(f"{where}: another row was used longest ago")
             continue
         number = number_in(entry)
         origin = (number - 1) % shards
         if not 0 < number <= len(commands) or owners[number - 1] not in (None, shard):
-            sys.exit(f"{where}: this shard does no part of such a command")
+            raise Wrong(f"{where}: this shard does no part of such a command")
         if number <= last[origin]:
-            sys.exit(f"{where}: behind {last[origin]} of the same origin")
+            raise Wrong(f"{where}: behind {last[origin]} of the same origin")
         last[origin], command = number, commands[number - 1]
         scans = command[0] == b"scan"
         replies[number] = cache.scan(command[1], int(command[2])) if scans else cache.do(number, command)
@@ -77,12 +85,12 @@ def lent_by(shard, shards, owners):
 def check(commands, lines, shards, pages, regions=1):
     """Checks the lines of a report, and answers at how many live bytes each row went."""
     if len(lines) != len(commands) + 2 * shards + 1 or lines[-1]:
-        sys.exit("the report has more lines or fewer, or its last one does not end")
+        raise Wrong("the report has more lines or fewer, or its last one does not end")
     owners, done, gone = owners_of(commands, shards), [[] for _ in commands], []
     for shard in range(shards):
         words = lines[len(commands) + shard].split(b" ")
         if words[:2] != [b"journal", b"%d" % shard]:
-            sys.exit(f"the line of the journal of shard {shard} begins otherwise")
+            raise Wrong(f"the line of the journal of shard {shard} begins otherwise")
         cache, replies, evicted = replay(shard, shards, words[2:], commands, owners, bound_of(shards, pages, regions))
         gone += evicted
         for number, reply in replies.items():
@@ -90,14 +98,65 @@ def check(commands, lines, shards, pages, regions=1):
         lent = lent_by(shard, shards, owners)
         line = b"shard %d rows %d live %d lent %d back %d" % (shard, len(cache.rows), cache.live, lent, lent)
         if lines[len(commands) + shards + shard] != line:
-            sys.exit(f"a last line is {lines[len(commands) + shards + shard]}, and not {line}")
+            raise Wrong(f"a last line is {lines[len(commands) + shards + shard]}, and not {line}")
     for number, command in enumerate(commands, 1):
         if len(done[number - 1]) != (shards if owners[number - 1] is None else 1):
-            sys.exit(f"not every part of command {number} stands in a journal")
+            raise Wrong(f"not every part of command {number} stands in a journal")
         answer = answer_of(number, command, done[number - 1])
         if lines[number - 1] != answer:
-            sys.exit(f"an answer is {lines[number - 1][:80]}, and not {answer[:80]}")
+            raise Wrong(f"an answer is {lines[number - 1][:80]}, and not {answer[:80]}")
     return gone
+
+
+def lines_of(report):
+    """The lines of a report, and None for what stands behind the last LF, if anything does."""
+    *lines, rest = report.split(b"\n")
+    return lines + [None] if rest else lines
+
+
+def entries_in(line, shard, count):
+    """The entries of the journal of a shard that a line spells. None where it spells none."""
+    words = line.split(b" ") if line is not None else []
+    if words[:2] != [b"journal", b"%d" % shard]:
+        return None
+    entries = words[2:]
+    spelled = all(re.fullmatch(rb"!?[1-9][0-9]{0,7}", entry) and int(entry.lstrip(b"!")) <= count for entry in entries)
+    return entries if spelled else None
+
+
+def report_of(commands, owners, journals, walked, shards):
+    """The lines of the report of journals that were walked: each with its cache and its replies."""
+    lines = []
+    for number, command in enumerate(commands, 1):
+        lines.append(answer_of(number, command, [replies[number] for _, replies, _ in walked if number in replies]))
+    lines += [b" ".join([b"journal %d" % shard, *entries]) for shard, entries in enumerate(journals)]
+    for shard, (cache, _, _) in enumerate(walked):
+        lent = lent_by(shard, shards, owners)
+        lines.append(b"shard %d rows %d live %d lent %d back %d" % (shard, len(cache.rows), cache.live, lent, lent))
+    return lines
+
+
+def verdict(trace, report, shards, pages):
+    """The first line of a report that is wrong, counted from 1, in the order of an audit. 0 where none is."""
+    commands, lines, floor = commands_of(trace), lines_of(report), floor_of(pages, regions_of(trace))
+    count, owners, journals, walked = len(commands), owners_of(commands, shards), [], []
+    for shard in range(shards):
+        entries = entries_in(lines[count + shard] if count + shard < len(lines) else None, shard, count)
+        if entries is None:
+            return count + shard + 1
+        journals.append(entries)
+    for shard, entries in enumerate(journals):
+        try:
+            walked.append(replay(shard, shards, entries, commands, owners, floor))
+        except Wrong:
+            return count + shard + 1
+        if len(walked[-1][1]) != sum(owner in (None, shard) for owner in owners):
+            return count + shard + 1
+    wanted = report_of(commands, owners, journals, walked, shards)
+    for at in range(max(len(lines), len(wanted))):
+        if at >= len(lines) or at >= len(wanted) or lines[at] != wanted[at]:
+            return at + 1
+    return 0
 
 
 def main():
@@ -106,11 +165,19 @@ def main():
     words.add_argument("report")
     words.add_argument("--shards", type=int, default=1)
     words.add_argument("--pages", type=int, default=8_192)
+    words.add_argument("--verdict", action="store_true")
     given = words.parse_args()
     with open(given.trace, "rb") as trace, open(given.report, "rb") as report:
-        text, lines = trace.read(), report.read().split(b"\n")
+        text, written = trace.read(), report.read()
+    if given.verdict:
+        wrong = verdict(text, written, given.shards, given.pages)
+        print(f"illegal line {wrong}" if wrong else "legal")
+        return
     commands = commands_of(text)
-    gone = check(commands, lines, given.shards, given.pages, regions_of(text))
+    try:
+        gone = check(commands, written.split(b"\n"), given.shards, given.pages, regions_of(text))
+    except Wrong as wrong:
+        sys.exit(str(wrong))
     print(f"{len(commands)} commands, {given.shards} shards, {len(gone)} evictions: as replayed")
 
 

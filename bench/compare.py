@@ -2,29 +2,54 @@
 """Times the program beside the unproved one, and prints a table.
 
     bench/compare.py [-r ROUNDS] [--small-pages] [--tables] [CASE ...]
+    bench/compare.py [-r ROUNDS] --write
 
 It builds both programs, the unproved one (bench/unproved) by cargo, and makes the traces where they are missing, in
 bench/out. A CASE is TRACE:SHARDS:PAGES with a trace of bench/traces.py, or `paths`, whose keys are the paths of this
 machine's files. The two programs run in turn, ROUNDS times (default 5), with their output thrown away. Printed are the
 least user and system time together, the least time by the clock and the greatest memory, each with its ratio to the
-unproved program's, and how many rows went. Where none goes, both wrote the same bytes. The unproved program evicts
+unproved program's and, behind that, what it is to be at most; with two shards also the clock beside that of one shard;
+and how many rows went. Where none goes, both wrote the same bytes. The unproved program evicts
 where the live bytes exceed what its option --limit says: all of the pages but one segment. Both run as ./shardcache
 runs the program, with a C library that asks the system for large pages; with --small-pages neither does.
 
 With --tables no unproved program runs: the program itself runs each trace in version 2, with its keys in eight tables,
 and in version 1. The ratios are those to version 1, and behind them stand, of both versions, how many gets found a row
 and how many rows went, and how many commands were answered alike.
+
+With --write both tables are made and put into docs/SPEED.md, between the marks that stand there. No other work should
+be on the machine.
 """
+import datetime
 import filecmp
 import os
 import re
 import sys
 
 from cache_model import bound_of
-from timing import LARGE_PAGES, OUT, in_turn, least, program, run, trace_of, unproved
+from timing import LARGE_PAGES, OUT, TOP, in_turn, least, program, run, trace_of, unproved
 
-CASES = ["gen:1:8192", "small:1:8192", "manykeys:1:16384", "evict:1:8192", "churn:1:8192", "paths:1:32768"]
-CASES += ["scans:1:8192", "gen:4:8192", "small:4:8192", "manykeys:4:8192", "evict:4:2048", "paths:4:8192"]
+CASES = ["gen:1:8192", "small:1:8192", "manykeys:1:16384", "evict:1:8192", "churn:1:8192", "paths:1:32768", "scans:1:8192"]
+CASES += ["gen:2:8192", "small:2:8192", "manykeys:2:8192", "evict:2:4096", "paths:2:16384"]
+CASES += ["gen:4:8192", "small:4:8192", "manykeys:4:8192", "evict:4:2048", "paths:4:8192"]
+
+# By the trace, the greatest ratios of time and memory with one shard, and of the clock with four, that are aimed at.
+AIMS = {
+    "gen": ("1.1", "1.3", "0.95"),
+    "small": ("0.95", "1.6", "1.0"),
+    "manykeys": ("0.65", "1.05", "0.9"),
+    "evict": ("1.2", "1.15", "1.0"),
+    "churn": ("0.65", "1.1", ""),
+    "paths": ("1.1", "1.1", "0.95"),
+}
+
+HEAD = "| Trace | Shards | Time | Ratio (aim) | Clock | Ratio (aim) | Beside one shard | Memory | Ratio (aim) | Rows that went |"
+TABLES_HEAD = (
+    "| Trace | Shards | Time | Ratio | Clock | Ratio | Memory | Ratio "
+    "| Gets that found a row | Rows that went | Answered alike |"
+)
+DOCUMENT = f"{TOP}/docs/SPEED.md"
+MARKS = ("<!-- written by bench/compare.py --write -->\n", "<!-- so far -->\n")
 
 
 def evictions(report):
@@ -46,17 +71,13 @@ def answered(reports):
     return hits, alike, count
 
 
-def spent_beside(name, shards, spent, other):
-    """The front of a line: a trace, the shards, and what was spent beside what was spent otherwise."""
-    return (
-        f"| `{name}` | {shards} | {spent.processor:.2f} s | {spent.processor / other.processor:.2f} "
-        f"| {spent.clock:.2f} s | {spent.clock / other.clock:.2f} "
-        f"| {spent.memory:.0f} MiB | {spent.memory / other.memory:.2f} |"
-    )
+def ratio(spent, other, aim=""):
+    """What was spent beside what was spent otherwise, and what that is to be at most."""
+    return f"{spent / other:.2f}{f' ({aim})' if aim else ''}"
 
 
 def compare_tables(case, rounds, path):
-    """Prints the line of a case: the program on the trace in version 2, beside the same in version 1."""
+    """The line of a case: the program on the trace in version 2, beside the same in version 1."""
     name, shards, pages = case.split(":")
     traces = [trace_of(name, tables=True), trace_of(name)]
     words = [path, "run", "--shards", shards, "--pages", pages]
@@ -67,12 +88,16 @@ def compare_tables(case, rounds, path):
     hits, alike, count = answered(reports)
     spent = zip(*[[run(words, trace) for trace in traces] for _ in range(rounds)])
     tables, other = (least(own) for own in spent)
-    line = spent_beside(name, shards, tables, other)
-    print(f"{line} {hits[0]}, {hits[1]} | {gone[0]}, {gone[1]} | {alike} of {count} |", flush=True)
+    return (
+        f"| `{name}` | {shards} | {tables.processor:.2f} s | {ratio(tables.processor, other.processor)} "
+        f"| {tables.clock:.2f} s | {ratio(tables.clock, other.clock)} "
+        f"| {tables.memory:.0f} MiB | {ratio(tables.memory, other.memory)} "
+        f"| {hits[0]}, {hits[1]} | {gone[0]}, {gone[1]} | {alike} of {count} |"
+    )
 
 
 def compare(case, rounds, programs):
-    """Prints the line of a case."""
+    """The line of a case: the program beside the unproved one and, where it has two shards, beside itself with one."""
     name, shards, pages = case.split(":")
     trace = trace_of(name)
     options = ["run", "--shards", shards, "--pages", pages]
@@ -84,32 +109,62 @@ def compare(case, rounds, programs):
     gone = [evictions(report) for report in reports]
     if shards == "1" and gone == [0, 0] and not filecmp.cmp(*reports, shallow=False):
         sys.exit(f"{case}: the two programs write different reports")
-    proved, other = in_turn(rounds, *commands, source=trace)
-    print(f"{spent_beside(name, shards, proved, other)} {gone[0]}, {gone[1]} |", flush=True)
+    if shards == "2":
+        commands.append([programs[0], "run", "--shards", "1", "--pages", str(2 * int(pages))])
+    proved, other, *alone = in_turn(rounds, *commands, source=trace)
+    time_aim, memory_aim, clock_aim = AIMS.get(name, ("", "", ""))
+    one, four = shards == "1", shards == "4"
+    beside_one = f"{proved.clock / alone[0].clock:.2f} (1.0)" if alone else ""
+    return (
+        f"| `{name}` | {shards} | {proved.processor:.2f} s | {ratio(proved.processor, other.processor, time_aim * one)} "
+        f"| {proved.clock:.2f} s | {ratio(proved.clock, other.clock, clock_aim * four)} | {beside_one} "
+        f"| {proved.memory:.0f} MiB | {ratio(proved.memory, other.memory, memory_aim * one)} | {gone[0]}, {gone[1]} |"
+    )
+
+
+def table(head, cases, line_of):
+    """A table with a line for each case, printed line by line as it comes."""
+    lines = []
+    for line in [head, "|---" * (head.count("|") - 1) + "|", *map(line_of, cases)]:
+        print(line, flush=True)
+        lines.append(f"{line}\n")
+    return "".join(lines)
+
+
+def write(text):
+    """Puts a text between the marks of the document."""
+    with open(DOCUMENT, encoding="utf-8") as file:
+        front, rest = file.read().split(MARKS[0])
+    behind = rest.split(MARKS[1])[1]
+    with open(DOCUMENT, "w", encoding="utf-8") as file:
+        file.write(f"{front}{MARKS[0]}\n{text}\n{MARKS[1]}{behind}")
 
 
 def main():
     words, rounds = sys.argv[1:], 5
     if words[:1] == ["-r"]:
         rounds, words = int(words[1]), words[2:]
+    writes = words == ["--write"]
+    words = [] if writes else words
     small_pages = words[:1] == ["--small-pages"]
     words = words[1:] if small_pages else words
     tables = words[:1] == ["--tables"]
     cases = words[1:] if tables else words
     if any(not re.fullmatch(r"\w+:\d+:\d+", it) or tables and it.startswith("paths:") for it in cases):
         sys.exit(__doc__)
-    programs = [program()] if tables else [program(), unproved()]
     os.environ["GLIBC_TUNABLES"] = "" if small_pages else LARGE_PAGES
-    if tables:
-        print("| Trace | Shards | Time | Ratio | Clock | Ratio | Memory | Ratio | Gets that found a row | Rows that went | Answered alike |")
-        print("|---|---|---|---|---|---|---|---|---|---|---|")
-        for case in cases or [it for it in CASES if not it.startswith("paths:")]:
-            compare_tables(case, rounds, programs[0])
-        return
-    print("| Trace | Shards | Time | Ratio | Clock | Ratio | Memory | Ratio | Rows that went |")
-    print("|---|---|---|---|---|---|---|---|---|")
-    for case in cases or CASES:
-        compare(case, rounds, programs)
+    own = program()
+    parts = [f"Least of {rounds} runs in turn, {datetime.date.today()}, {os.cpu_count()} processors.\n"]
+    if not tables:
+        other = unproved()
+        parts.append(table(HEAD, cases or CASES, lambda case: compare(case, rounds, [own, other])))
+    if writes:
+        parts.append("The same traces in version 2, with their keys in eight tables, beside version 1:\n")
+    if tables or writes:
+        in_tables = cases or [it for it in CASES if not it.startswith("paths:")]
+        parts.append(table(TABLES_HEAD, in_tables, lambda case: compare_tables(case, rounds, own)))
+    if writes:
+        write("\n".join(parts))
 
 
 main()

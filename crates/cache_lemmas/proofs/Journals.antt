@@ -1,7 +1,7 @@
 -- A journal goes on.
-use Rattle.std.proofs.Common.{◌≡◌, ℕ, ◌+◌, ◌<◌, suc, Bool, true, false, not, ◌||◌, cond, eqb, List, [], ◌∷◌, ◌++◌, Option, Some, None, arith, refl, sym, ap, ◌∙◌}
+use Rattle.std.proofs.Common.{◌≡◌, ℕ, ◌+◌, ◌<◌, suc, Bool, true, false, not, ◌||◌, cond, eqb, List, [], ◌∷◌, ◌++◌, Option, Some, None, arith, refl, subst, sym, ap, ◌∙◌}
 use Rattle.std.specs.List.{list_any, before_first, prefix_len}
-use Rattle.std.specs.Option.{option_and_then}
+use Rattle.std.specs.Option.{IsSome, option_and_then}
 use Rattle.std.proofs.lemmas.Bool.Decides.{nat_tests}
 use Rattle.rows.specs.Operation.{Operation}
 use Rattle.trace_text.specs.Trace.{Trace}
@@ -9,7 +9,7 @@ use Rattle.cache_model.specs.declared.entry.Entry.{Entry}
 use Rattle.cache_model.specs.declared.entry.Entry.TheVariants.{Done, Evicted}
 use Rattle.rows.specs.Row.{Row, live}
 use Rattle.rows.specs.Apply.{Reply, apply}
-use Rattle.cache_model.specs.Legal.{EvictsAbove, after, cache_after, cache_from, command_of, done, is_done, reply_at, reply_on}
+use Rattle.cache_model.specs.Legal.{EvictsAbove, IsLegal, after, cache_after, cache_from, command_of, done, is_done, reply_at, reply_on}
 
 -- ---- where it leads
 
@@ -103,6 +103,38 @@ any-done i (Evicted q) journal rest = rest
 pub number_is_done : (i : ℕ) (journal : List Entry) → list_any (is_done i) journal ≡ list_any (λ j. eqb j i) (done journal)
 number_is_done i [] = refl
 number_is_done i (entry ∷ journal) = any-done i entry journal (number_is_done i journal)
+
+-- ---- each command that is done in a legal journal has a reply
+
+leads-on : (trace : Trace) (pages i : ℕ) (journal : List Entry) (o : Option (List Row))
+    → ((next : List Row) → IsSome (cache_from trace pages next journal) → IsSome (cache_from trace pages next (before_first (is_done i) journal)))
+    → IsSome (option_and_then (λ next. cache_from trace pages next journal) o) → IsSome (option_and_then (λ next. cache_from trace pages next (before_first (is_done i) journal)) o)
+leads-on trace pages i journal None later some = some
+leads-on trace pages i journal (Some next) later some = later next some
+
+-- the entries before the one of a command lead somewhere where all do
+leads-before : (trace : Trace) (pages i : ℕ) (start : List Row) (journal : List Entry) → IsSome (cache_from trace pages start journal) → list_any (is_done i) journal ≡ true
+    → IsSome (cache_from trace pages start (before_first (is_done i) journal))
+leads-before trace pages i start [] some any = some
+leads-before trace pages i start (entry ∷ journal) some any = go (is_done i entry) refl any (λ next. leads-before trace pages i next journal)
+  where
+    go : (b : Bool) → is_done i entry ≡ b → (b || list_any (is_done i) journal) ≡ true
+        → ((next : List Row) → IsSome (cache_from trace pages next journal) → list_any (is_done i) journal ≡ true → IsSome (cache_from trace pages next (before_first (is_done i) journal)))
+        → IsSome (cache_from trace pages start (before_first (is_done i) (entry ∷ journal)))
+    go true is found behind = rw is refl
+    go false is found behind =
+        subst (λ front. IsSome (cache_from trace pages start front)) (sym (before-skip i entry journal is))
+        (leads-on trace pages i journal (after trace pages entry start) (λ next more. behind next more found) some)
+
+reply-there : (o : Option Operation) (cache : Option (List Row)) (operation : Operation) → o ≡ Some operation → IsSome cache → IsSome (reply_on o cache)
+reply-there None cache operation is some = absurd (let clash : None ≡ Some operation = is in cc)
+reply-there (Some found) None operation is some = some
+reply-there (Some found) (Some cache) operation is some = refl
+
+pub replies-each : (trace : Trace) (pages i : ℕ) (journal : List Entry) (operation : Operation) → IsLegal trace pages journal → list_any (is_done i) journal ≡ true
+    → command_of trace i ≡ Some operation → IsSome (reply_at trace pages journal i)
+replies-each trace pages i journal operation legal any command =
+    rw any (reply-there (command_of trace i) (cache_after trace pages (before_first (is_done i) journal)) operation command (leads-before trace pages i [] journal legal any))
 
 -- ---- its evictions
 

@@ -1,5 +1,5 @@
 -- Laws of journals, answers and reports.
-use Rattle.std.specs.Prelude.{◌≡◌, ◌==◌, ◌+◌, ◌*◌, ◌<◌, ◌≤◌, if◌then◌else◌, ℕ, Bool, false, List, [], ◌∷◌, ◌++◌, length, map, filter, Some, All}
+use Rattle.std.specs.Prelude.{◌≡◌, ◌==◌, ◌+◌, ◌*◌, ◌<◌, ◌≤◌, if◌then◌else◌, ℕ, Bool, true, false, List, [], ◌∷◌, ◌++◌, length, map, filter, Some, All, IsSome}
 use Rattle.std.specs.List.{list_any, slice_get, slice_index_or, enumerate_from}
 use Rattle.std.specs.Option.{option_map}
 use Rattle.std.proofs.Common.{refl}
@@ -20,7 +20,7 @@ use Rattle.cache_model.specs.declared.entry.Entry.TheVariants.{Done, Evicted}
 use Rattle.cache_model.specs.Answer.{answer, answer_from}
 use Rattle.cache_model.specs.Bodies.{HasKeys, HasShortKeys}
 use Rattle.cache_model.specs.Holds.{PutsHold, PutBytesHold, ReplyBytesHold}
-use Rattle.cache_model.specs.Legal.{EvictsAbove, cache_after, cache_from, command_of, done, is_done, reply_at}
+use Rattle.cache_model.specs.Legal.{EvictsAbove, IsLegal, cache_after, cache_from, command_of, done, is_done, reply_at}
 use Rattle.cache_model.specs.Logged.{AreLogged}
 use Rattle.cache_model.specs.ReadOff.{IsReadInLogs}
 use Rattle.cache_model.specs.Replied.{HoldTheReplies}
@@ -28,7 +28,7 @@ use Rattle.cache_model.specs.OwnParts.{Log, issued_parts, parts_before, parts_of
 use Rattle.cache_model.specs.Report.{HasNumbers, Occupancy, PrintsJournals, answers, answer_text, journal_text, occupancy_text, report_of, text_lines}
 use Rattle.cache_model.specs.Unbroken.{IsUnbroken}
 use Rattle.cache_lemmas.proofs.Distinct.{distinct-after}
-use Rattle.cache_lemmas.proofs.Journals.{evicts-done, kept, leads, number_is_done, replied_at_end}
+use Rattle.cache_lemmas.proofs.Journals.{evicts-done, kept, leads, number_is_done, replied_at_end, replies-each}
 use Rattle.cache_lemmas.proofs.Evictions.{above, legal, low}
 use Rattle.cache_lemmas.proofs.Holds.{answer-holds, reply-holds, rows-hold}
 use Rattle.cache_lemmas.proofs.Bodies.{reply-fits}
@@ -70,6 +70,11 @@ a_journal_goes_on-evicts trace pages bound i journal so_far = evicts-done trace 
 
 pub a_journal_goes_on-number : (i : ℕ) (journal : List JournalEntry) → list_any (is_done i) journal ≡ list_any (λ j. j == i) (done journal)
 a_journal_goes_on-number i journal = number_is_done i journal
+
+-- A legal journal replies to each command that is done in it.
+pub a_legal_journal_replies : (trace : Trace) (pages i : ℕ) (journal : List JournalEntry) (operation : Operation)
+    → IsLegal trace pages journal → list_any (is_done i) journal ≡ true → command_of trace i ≡ Some operation → IsSome (reply_at trace pages journal i)
+a_legal_journal_replies trace pages i journal operation legal any command = replies-each trace pages i journal operation legal any command
 
 -- Evictions in turn above a bound that is at least the floor are legal, and stand above the bound in the journal that
 -- they go on from.

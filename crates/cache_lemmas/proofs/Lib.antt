@@ -12,3 +12,4 @@ pub mod Printed
 pub mod ReadBack
 pub mod RowLaws
 pub mod TextLines
+pub mod UnbrokenAnswers

@@ -90,7 +90,7 @@ reply-unbroken Missing holds = refl
 reply-unbroken Erased holds = refl
 reply-unbroken (Keys keys) holds = unbroken-append (codes "keys") (flat_map (λ key. 32 ∷ key) keys) refl (keys-unbroken keys holds)
 
-answer-unbroken : (answer : ℕ × Reply) → IsUnbroken answer.1 → Unbroken (answer_text answer)
+pub answer-unbroken : (answer : ℕ × Reply) → IsUnbroken answer.1 → Unbroken (answer_text answer)
 answer-unbroken (number, reply) holds =
     unbroken-append (decimal number) (32 ∷ reply_text reply) (decimal-unbroken number) (unbroken-cons 32 (reply_text reply) refl (reply-unbroken reply holds))
 
@@ -104,7 +104,7 @@ entries-unbroken (entry ∷ journal) =
     unbroken-append (32 ∷ entry_text entry) (flat_map (λ e. 32 ∷ entry_text e) journal)
     (unbroken-cons 32 (entry_text entry) refl (entry-unbroken entry)) (entries-unbroken journal)
 
-journal-unbroken : (journal : ℕ × List Entry) → Unbroken (journal_text journal)
+pub journal-unbroken : (journal : ℕ × List Entry) → Unbroken (journal_text journal)
 journal-unbroken (shard, journal) =
     unbroken-append (codes "journal " ++ decimal shard) (flat_map (λ entry. 32 ∷ entry_text entry) journal)
     (unbroken-append (codes "journal ") (decimal shard) refl (decimal-unbroken shard)) (entries-unbroken journal)
@@ -112,7 +112,7 @@ journal-unbroken (shard, journal) =
 field-unbroken : (front name : List ℕ) (n : ℕ) → Unbroken front → Unbroken name → Unbroken (front ++ name ++ decimal n)
 field-unbroken front name n is name-is = unbroken-append (front ++ name) (decimal n) (unbroken-append front name is name-is) (decimal-unbroken n)
 
-occupancy-unbroken : (occupancy : ℕ × Occupancy) → Unbroken (occupancy_text occupancy)
+pub occupancy-unbroken : (occupancy : ℕ × Occupancy) → Unbroken (occupancy_text occupancy)
 occupancy-unbroken (shard, o) =
     let shard-text = codes "shard " ++ decimal shard in
     let rows-text = shard-text ++ codes " rows " ++ decimal o.rows in
@@ -136,7 +136,7 @@ first_line text rest is =
     (slice_split_at (λ b. eqb b 10) text 10 rest (λ k d lt. not-not _ (AllPass-from_list_all (λ b. not (eqb b 10)) text is k d lt)) refl)
 
 -- unbroken texts, each on its line
-each_line : {X : Type 0} (text : X → List ℕ) (xs : List X) (rest : List ℕ) → All (λ x. Unbroken (text x)) xs
+pub each_line : {X : Type 0} (text : X → List ℕ) (xs : List X) (rest : List ℕ) → All (λ x. Unbroken (text x)) xs
     → text_lines (flat_map (λ x. line (text x)) xs ++ rest) ≡ map text xs ++ text_lines rest
 each_line text [] rest all = refl
 each_line text (x ∷ xs) rest all =

@@ -1,10 +1,10 @@
 -- A live object is copied whole: the copy is of the same group.
-use Rattle.std.proofs.Common.{◌≡◌, ◌≢◌, ℕ, zero, suc, Bool, true, false, List, [], ◌∷◌, refl, sym, ap, ◌∙◌, subst}
+use Rattle.std.proofs.Common.{◌≡◌, ℕ, zero, suc, Bool, true, false, List, [], ◌∷◌, refl, sym, ap, ◌∙◌, subst}
 use Rattle.std.specs.Prelude.{Option, None, Some, IfSome, option_map, slice_index_or, ◌==◌}
 use Rattle.object_log.specs.Objects.{Object, objects}
 use Rattle.regions.specs.Segments.{SegmentState, RegionState, segment_at}
 use Rattle.regions.specs.Shapes.{slot_of, slots_of, slot_at, group_in, group_of, IsClosedIn}
-use Rattle.regions.specs.Contents.{Item, Standing, standing, object_with, standing_in, standing_at, item_if_live, if_live, live_at, zeros, with_bytes, ChangesAt}
+use Rattle.regions.specs.Contents.{Item, Standing, standing, object_with, standing_in, standing_at, item_if_live, if_live, live_at, size_of, holding, ChangesAt, IsLiveAt}
 use Rattle.regions.specs.declared.place.Place.{Place}
 use Rattle.compaction.proofs.Shut.{group-of-closed}
 
@@ -41,15 +41,17 @@ stands-alive : (o : Option Standing) (i : Item) → item_if_live o ≡ Some i �
 stands-alive None i e = absurd (let clash : None ≡ Some i = e in cc)
 stands-alive (Some s) i e = if-alive s.live s.item i e
 
-pub whole-copy : (old mid new : RegionState) (from to : Place) (group kind size : ℕ) (item : Item) → live_at old from ≡ Some item → item.kind ≡ kind → IsClosedIn old group from.segment
-    → standing_at old to ≡ None → ChangesAt to (Some (zeros (Some group) kind size)) old mid
-    → IfSome (live_at mid from) (λ i. ChangesAt to (option_map (with_bytes i.content) (standing_at mid to)) mid new) → ChangesAt to (standing_at old from) old new
-whole-copy old mid new from to group kind size item live kind_is closed unused added copied =
-    let far : from ≢ to = λ e. (let clash : Some item ≡ None = sym live ∙ ap (live_at old) e ∙ ap item_if_live unused in cc) in
-    let still : live_at mid from ≡ Some item = ap item_if_live (added.others from far) ∙ live in
-    let changes : ChangesAt to (option_map (with_bytes item.content) (standing_at mid to)) mid new =
-    subst (λ o. IfSome o (λ (i : Item). ChangesAt to (option_map (with_bytes i.content) (standing_at mid to)) mid new)) still copied in
-    let of : Some group ≡ item.group = sym (live-grouped old from item live ∙ group-of-closed old group from.segment closed) in
-    let same : option_map (with_bytes item.content) (standing_at mid to) ≡ standing_at old from =
-    ap (option_map (with_bytes item.content)) added.here ∙ ap (λ g. alive g kind item.content) of ∙ ap (λ k. alive item.group k item.content) (sym kind_is) ∙ sym (stands-alive (standing_at old from) item live) in
-    record { here = changes.here ∙ same; others = λ q away. changes.others q away ∙ added.others q away }
+-- the copy stands as the object did
+pub whole-copy : (old new : RegionState) (from to : Place) (group kind size : ℕ) (live : IsLiveAt (live_at old from) kind size) → IsClosedIn old group from.segment
+    → IfSome (live_at old from) (λ i. ChangesAt to (Some (holding (Some group) kind i.content)) old new) → ChangesAt to (standing_at old from) old new
+whole-copy old new from to group kind size live closed added =
+    let item = live.item in
+    let changes : ChangesAt to (Some (holding (Some group) kind item.content)) old new = subst (λ o. IfSome o (λ (i : Item). ChangesAt to (Some (holding (Some group) kind i.content)) old new)) live.is added in
+    let of : Some group ≡ item.group = sym (live-grouped old from item live.is ∙ group-of-closed old group from.segment closed) in
+    let same : Some (holding (Some group) kind item.content) ≡ standing_at old from =
+    ap (λ g. alive g kind item.content) of ∙ ap (λ k. alive item.group k item.content) (sym live.kind_is) ∙ sym (stands-alive (standing_at old from) item live.is) in
+    record { here = changes.here ∙ same; others = changes.others }
+
+-- it has a size
+pub live-size : (o : Option Item) (kind size : ℕ) → IsLiveAt o kind size → option_map size_of o ≡ Some size
+live-size o kind size live = ap (option_map size_of) live.is ∙ ap (λ n. Some n) live.size_is

@@ -33,10 +33,9 @@ fn append_copy(region: &mut Region, group: u32, from: Place, kind: u8, size: u32
     ensures live_total { live_total region.new ≡ live_total region.old + size }
     ensures shape { shape region.new ≡ shape region.old }
 {
-    let Ok(to) = region.place(group, kind, size) else {
+    let Ok(to) = region.place_copy(group, from, kind, size) else {
         unreachable!()
     };
-    region.copy(from, to);
     to
 }
 

@@ -1,6 +1,8 @@
 -- Each step is allowed: whatever the table is, it keeps the rule and tells what its play says.
 use Rattle.std.proofs.Common.{◌≡◌, ℕ, suc, ◌≤◌, eqb, true, false, List, [], ◌∷◌, ◌++◌, set, Option, Some, None, slice_get, sym, refl, ap, ◌∙◌, subst}
+use mathlib.Core.Logic.{dite}
 use mathlib.Core.Option.{some-injective}
+use native.Mathlib.Decide.{ℕ_discrete}
 use Rattle.layout.specs.Sizes as sizes
 use prog.Atomic.{either}
 use Rattle.raw_range.specs.Memory.{Lent}
@@ -17,11 +19,11 @@ use Rattle.foreign_list.specs.Laws.{Slots, Has, head}
 use Rattle.foreign_list.specs.inside.Words.{Table, word_at}
 use Rattle.foreign_list.specs.inside.Views.{carry, at_stage, sent_back, lent_out, lending, took_whole, walked, put_home, ledger_of}
 use Rattle.foreign_list.specs.inside.Rule.{IsConsistent}
-use Rattle.foreign_list.specs.inside.Plays.{SeatState, of_pass, of_owner, first_look, look_again, link, Swung, TookWhole, WalkedOn, go_home}
+use Rattle.foreign_list.specs.inside.Plays.{SeatState, of_pass, of_owner, first_look, look_again, link, Swung, SawList, TookWhole, WalkedOn, go_home}
 use Rattle.foreign_list.proofs.Once.{list_low}
 use Rattle.foreign_list.proofs.PassSteps.{slot_is_empty}
 use Rattle.foreign_list.proofs.OwnerSteps.{first_home, next_link, next_low}
-use Rattle.foreign_list.proofs.TableSteps.{made, looked_first, looked_again, linked, won, lost, lent, head_link, took, walked_on, came_home}
+use Rattle.foreign_list.proofs.TableSteps.{made, looked_first, looked_again, linked, won, lost, lent, head_link, took, took_none, saw, walked_on, came_home}
 
 -- a step that the rule allows, of the word i, which it makes f of what it was
 abbrev IsAllowed : ℕ → ℕ → View → Slots → ℕ → (ℕ → ℕ) → (ℕ → SeatState → Type 0) → Type 0
@@ -178,3 +180,28 @@ goes_home n id v c d i t more is next has holds =
       (came_home s k t has').0,
       subst (λ h. go_home h k.ledger (Owner k.ledger, mine) (word_at s.words (suc t)) (Owner (put_home t k.ledger), more)) (sym has') (refl, refl),
     )) has)))
+
+-- 10
+pub sees : (n id : ℕ) (v : View) (c : Slots) (d : Ledger) → v ≡ Owner d → d.walk ≡ [] → d.hand ≡ None
+    → IsAllowed n id v c 0 (λ x. x) (λ found m. of_owner SawList v (v, c) found m)
+sees n id v c d is empty free = subst (λ v. IsAllowed n id v c 0 (λ x. x) (λ found m. of_owner SawList v (v, c) found m)) (sym is)
+    (λ s k deep at fits. at_ledger s k id d
+    (λ j (b : Ledger). b.walk ≡ [] → b.hand ≡ None → Goes s 0 (head s) j c (λ found m. SawList b (Owner b, c) found m)) at
+    (λ none_left no_hand. dite (ℕ_discrete (head s) 0)
+    (λ none. (
+      Owner (took_whole k.listed k.ledger),
+      keeps,
+      tt,
+      (took_none s k none_left no_hand none).0,
+      record {
+        none = λ _. record { low = head_low s k; listed = k.listed; first = head_link s k; after = refl; slots = refl };
+        some = λ other. absurd (other none);
+      },
+    ))
+    (λ other. (
+      Owner k.ledger,
+      keeps,
+      tt,
+      (saw s k).0,
+      record { none = λ none. absurd (other none); some = λ _. refl },
+    ))) empty free)

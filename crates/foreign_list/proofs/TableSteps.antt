@@ -1,9 +1,11 @@
--- Each step, from a table that keeps the rule, leads to one that does, and is one event of the core; the owner's walk is none.
+-- Each step, from a table that keeps the rule, leads to one that does, and is one event of the core; the owner's walk is none, nor is its
+-- look at a list on which there is a ticket.
 use Rattle.std.proofs.Common.{◌≡◌, ◌≢◌, ℕ, suc, true, false, List, [], ◌∷◌, ◌++◌, set, replicate, map, Option, Some, None, slice_get, sym, refl, subst, arith, get_or-set_other, get_or-set_same}
 use mathlib.Core.Option.{some, none}
 use lib.ListN.{get_elem?}
 use lib.Seq.{set-get_or}
 use Rattle.layout.specs.Sizes as sizes
+use Rattle.atomic_table.proofs.Lists.{set_again}
 use Rattle.raw_range.specs.Memory.{Lent}
 use Rattle.foreign_core.specs.Tickets.{step}
 use Rattle.foreign_core.specs.declared.event.Event.{Event}
@@ -21,6 +23,7 @@ use Rattle.foreign_list.specs.inside.Words.{Table, Homes, word_at, link_to}
 use Rattle.foreign_list.specs.inside.Views.{carry, at_stage, sent_back, lent_out, took_whole, walked, put_home, idle_ledger}
 use Rattle.foreign_list.specs.inside.Places.{Places}
 use Rattle.foreign_list.specs.inside.Changes.{Changes}
+use Rattle.foreign_list.specs.inside.History.{Counted, Shows}
 use Rattle.foreign_list.specs.inside.Rule.{IsConsistent}
 use Rattle.foreign_list.proofs.HistorySteps as history
 use Rattle.foreign_list.proofs.ChangeSteps as change
@@ -155,6 +158,31 @@ module _ (s : Table) (k : IsConsistent s) where
         },
         n.step_is,
       )
+
+  -- a look at the head finds none
+  pub took_none : k.ledger.walk ≡ [] → k.ledger.hand ≡ None → head s ≡ 0
+      → LeadsTo s k event.TakeWhole (set s.words 0 (head s)) s.homes (owner_at (took_whole k.listed k.ledger))
+  took_none empty free bare =
+      subst (λ x. LeadsTo s k event.TakeWhole (set s.words 0 x) s.homes (owner_at (took_whole k.listed k.ledger))) (sym bare) (took empty free)
+
+  -- a look at the head, by which nothing changes
+  pub saw : (k' : IsConsistent (made (set s.words 0 (head s)) s.homes (owner_at k.ledger))) × (k'.history.tickets ≡ k.history.tickets)
+  saw = let again : owner_at k.ledger ≡ s.views = set_again s.views 0 (Owner k.ledger) k.places.is_ledger in (
+    read s.words 0 s.homes (owner_at k.ledger) record {
+      ledger = k.ledger;
+      listed = k.listed;
+      places = subst (λ (vs : List View). Places k.ledger k.listed s.words s.homes vs) (sym again) k.places;
+      changes = subst (λ (vs : List View). Changes (head s) vs) (sym again) k.changes;
+      history = record {
+        tickets = k.history.tickets;
+        shows = subst (λ (vs : List View). Shows k.ledger k.listed vs k.history.tickets) (sym again) k.history.shows;
+        events = k.history.events;
+        ran = k.history.ran;
+        counted = subst (λ (vs : List View). Counted k.ledger vs k.history.tickets k.history.events) (sym again) k.history.counted;
+      };
+    },
+    refl,
+  )
 
   pub walked_on : (t : ℕ) (left : List ℕ) → k.ledger.walk ≡ t ∷ left → k.ledger.hand ≡ None
       → (k' : IsConsistent (made (set s.words (suc t) (word_at s.words (suc t))) (set s.homes t none) (owner_at (walked t left k.ledger))))

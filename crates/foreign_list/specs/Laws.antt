@@ -53,7 +53,7 @@ pub record ShowsCore (s : Table) (tickets : Tickets) : Type 0 where
 abbrev pub EachShowsCore : Type 0
 EachShowsCore = (s : Table) → IsConsistent s → (tickets : Tickets) × ShowsCore s tickets
 
--- Each step is one event of the core, and the owner's walk is none.
+-- Each step is one event of the core; the owner's walk is none, nor is its look at a list on which there is a ticket.
 
 -- from a table that keeps the rule, the step leads to one that does, and its tickets are those that the event makes
 abbrev pub Leads : Table → Event → Table → Type 0
@@ -91,6 +91,10 @@ pub record EachStepIsOneEvent : Type 0 where
       → Leads s (event.Swing e.ticket) (stepped s 0 (head s) id c (Pass (sent_back e (head s))) keeps)
   pub take : (s : Table) (c : Slots) (d : Ledger) → Has s 0 (Owner d) → d.walk ≡ [] → d.hand ≡ None
       → Leads s event.TakeWhole (stepped s 0 0 0 c (Owner (took_whole (listed_in s) d)) keeps)
+  pub take_none : (s : Table) (c : Slots) (d : Ledger) → Has s 0 (Owner d) → d.walk ≡ [] → d.hand ≡ None → head s ≡ 0
+      → Leads s event.TakeWhole (stepped s 0 (head s) 0 c (Owner (took_whole (listed_in s) d)) keeps)
+  pub see : (s : Table) (c : Slots) (d : Ledger) → Has s 0 (Owner d) → head s ≢ 0
+      → Stays s (stepped s 0 (head s) 0 c (Owner d) keeps)
   pub walk : (s : Table) (c : Slots) (d : Ledger) (t : ℕ) (left : List ℕ) (piece : Lent) → Has s 0 (Owner d)
       → d.walk ≡ t ∷ left → d.hand ≡ None
       → Stays s (stepped s (suc t) (word_at s.words (suc t)) 0 c (Owner (walked t left d)) (takes t (Some piece)))

@@ -3,9 +3,9 @@
 //!
 //! The owner lends a piece of its memory with one of [`layout::TICKETS`] tickets, as a [`ForeignBlock`]. Whoever has the block,
 //! on any thread, reads and writes its bytes, and gives it back by [`ForeignBlock::release`]: a look at the list's head, a store
-//! of the link to it, and a compare-and-exchange of the head. The owner takes the whole list by one exchange
-//! ([`Foreign::take_whole`]), and then gives itself one block after the other, the newest first ([`Foreign::next_back`]). It is a
-//! Treiber stack that is drained whole.
+//! of the link to it, and a compare-and-exchange of the head. The owner looks whether the list is empty, takes the whole of it by
+//! one exchange where it is not ([`Foreign::take_whole`]), and then gives itself one block after the other, the newest first
+//! ([`Foreign::next_back`]). It is a Treiber stack that is drained whole.
 //!
 //! # When a block comes home
 //! A won swing puts the block on the list, and its ticket is still not idle. It is idle once `next_back` gave the block to the
@@ -21,7 +21,7 @@
 //!
 //! # What a release costs
 //! One that wins at once makes one load, one store and one compare-and-exchange. It waits for nobody, and may lose: then
-//! [`Raced`] gives the block back. Taking an empty list is one exchange. The words of two lists never share a cache line, since
+//! [`Raced`] gives the block back. Taking an empty list is one load. The words of two lists never share a cache line, since
 //! behind those of each lie 64 bytes that nobody writes.
 #![tactic(auto)]
 
@@ -38,6 +38,7 @@ mod plays;
 mod released;
 mod slots;
 mod steps;
+mod taking;
 mod tally;
 mod views;
 

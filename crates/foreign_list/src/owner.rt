@@ -64,14 +64,14 @@ impl Foreign {
         }
     }
 
-    /// Takes the whole list by one exchange: its tickets, the newest first, are the walk, and the list is empty. The count of
-    /// take-wholes shows it.
+    /// Takes the whole list, by one exchange, or by a look where it is empty: its tickets, the newest first, are the walk, and the
+    /// list is empty. The count of take-wholes shows it.
     pub fn take_whole(&self, seat: &mut OwnerSeat)
         requires seat { IsSeatOf self.now seat.old }
         requires walk { seat.old.walk ≡ [] }
         ensures { (taken : List ℕ) × (seat.new ≡ after_take_whole seat.old taken) }
     {
-        seat.first = self.table.take_head(&mut seat.seat);
+        seat.first = self.table.take_list(&mut seat.seat);
     }
 
     /// Gives the first of the walk, with the piece that was lent with it. Its ticket is idle again. None exactly where the walk is

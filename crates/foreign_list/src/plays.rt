@@ -3,7 +3,7 @@ ghost use Rattle.std.specs.Prelude.{ℕ, ◌-◌};
 ghost use Rattle.foreign_list.specs.declared.piece_id.PieceId.{PieceId};
 ghost use Rattle.foreign_list.specs.declared.views.View.TheVariants.{Pass};
 ghost use Rattle.foreign_list.specs.inside.Views.{carry, lending, no_piece};
-ghost use Rattle.foreign_list.specs.inside.Plays.{of_pass, first_look, look_again, link, Swung, of_owner, TookWhole, WalkedOn, go_home};
+ghost use Rattle.foreign_list.specs.inside.Plays.{of_pass, first_look, look_again, link, Swung, of_owner, SawList, TookWhole, WalkedOn, go_home};
 
 use crate::views::View;
 use atomic_table::{Play, Split};
@@ -61,6 +61,12 @@ pub(crate) struct TakeWhole;
 
 impl Play<Deposit, View> for TakeWhole {
     ghost then = { λ s m found n. of_owner TookWhole m.0 m found n };
+}
+
+pub(crate) struct See;
+
+impl Play<Deposit, View> for See {
+    ghost then = { λ s m found n. of_owner SawList m.0 m found n };
 }
 
 pub(crate) struct Walk;

@@ -1,4 +1,4 @@
-//! The nine kinds of step at the table.
+//! The ten kinds of step at the table.
 ghost use Rattle.std.specs.Prelude.{◌≡◌, ◌≢◌, ℕ, suc, ◌+◌, ◌<◌, ◌≤◌, List, [], ◌∷◌, true, false, length, replicate, Option, IfOk, Some, None, slice_get};
 ghost use Rattle.layout.specs.Sizes as sizes;
 ghost use Rattle.raw_range.specs.Memory.{Lent};
@@ -7,11 +7,11 @@ ghost use Rattle.foreign_list.specs.declared.views.View.TheVariants.{Owner, Pass
 ghost use Rattle.foreign_list.specs.declared.views.Stage.TheVariants.{Carry, Looked, Linked};
 ghost use Rattle.foreign_list.specs.inside.Words.{link_to};
 ghost use Rattle.foreign_list.specs.inside.Views.{idle_ledger, holder_of, ledger_of, IsPass, IsOwner, at_stage, sent_back, carry, lent_out, put_home};
-ghost use Rattle.foreign_list.specs.inside.Plays.{TookWhole, WalkedOn};
+ghost use Rattle.foreign_list.specs.inside.Plays.{SawList, TookWhole, WalkedOn};
 ghost use Rattle.foreign_list.specs.inside.Seats.{IsAt, SameSeat};
 
 use crate::list_table::{ListTable, TableSeat};
-use crate::plays::{FirstLook, Home, Lend, Lending, Link, LookAgain, Swing, TakeWhole, Walk};
+use crate::plays::{FirstLook, Home, Lend, Lending, Link, LookAgain, See, Swing, TakeWhole, Walk};
 use atomic_table::Table;
 use layout::{LIST_WORDS, TICKETS};
 use raw_range::{Deposit, Piece};
@@ -133,6 +133,16 @@ impl ListTable {
         ensures idle { seat.new.me ≡ (Owner (put_home ticket (ledger_of seat.old.me.0)), []) }
     {
         self.table.shared.load::<Home>(seat, ticket as usize + 1);
+    }
+
+    // 10: the head is read. Where it is none, the list is the walk as it is.
+    pub(crate) fn see_head(&self, seat: &mut TableSeat) -> u64
+        requires seat { IsAt self.now seat.old × IsOwner seat.old.me.0 }
+        requires walk { ((ledger_of seat.old.me.0).walk ≡ []) × ((ledger_of seat.old.me.0).hand ≡ None) }
+        ensures seat { SameSeat seat.old seat.new }
+        ensures seen { SawList (ledger_of seat.old.me.0) seat.old.me result seat.new.me }
+    {
+        self.table.shared.load::<See>(seat, 0)
     }
 }
 

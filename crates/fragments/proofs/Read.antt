@@ -1,10 +1,10 @@
 -- What is read from the bytes of a fragment.
-use Rattle.std.proofs.Common.{◌≡◌, ℕ, ◌+◌, ◌-◌, ◌<◌, ◌^◌, List, [], ◌++◌, length, take, drop, replicate, refl, ap, sym, ◌∙◌, arith, length-append, length-drop}
-use Rattle.std.proofs.lemmas.List.{take_at, drop-drop, drop-replicate, length-replicate}
+use Rattle.std.proofs.Common.{◌≡◌, ℕ, ◌+◌, ◌-◌, ◌<◌, ◌^◌, List, [], ◌++◌, length, take, drop, replicate, refl, ap, sym, ◌∙◌, arith, append_assoc, length-append, length-drop}
+use Rattle.std.proofs.lemmas.List.{take_at, drop-drop, length-replicate}
 use Rattle.byteorder.specs.Endian.{little_number, little_bytes}
 use Rattle.byteorder.specs.Numbers.{little_number-reads_back}
 use Rattle.fragments.specs.Sizes.{object_size}
-use Rattle.fragments.specs.Fragment.{HoldsFragment, back_in, body, body_in, bytes_in, fragment, length_in, name_in, next_in}
+use Rattle.fragments.specs.Fragment.{HoldsFragment, back_in, body, body_in, bytes_in, filled, fragment, length_in, name_in, next_in}
 
 abbrev pub padding : ℕ → List ℕ
 padding len = replicate (object_size len - (32 + len)) 0
@@ -12,16 +12,12 @@ padding len = replicate (object_size len - (32 + len)) 0
 abbrev pub head : ℕ → ℕ → ℕ → ℕ → List ℕ
 head back next name len = little_bytes 8 back ++ little_bytes 8 next ++ little_bytes 4 name ++ little_bytes 4 len
 
--- the same of the pieces into which the content was split
-pub pieces_written : (back next name : ℕ) (bytes content text behind tail : List ℕ) → content ≡ replicate (length content) 0
-    → length content + 8 ≡ object_size (length bytes) → text ≡ head back next name (length bytes) → behind ≡ drop 24 content
-    → tail ≡ bytes ++ drop (length bytes) behind → text ++ tail ≡ fragment back next name bytes
-pieces_written back next name bytes content text behind tail zero is text_is behind_is tail_is =
-    let end : drop (length bytes) behind ≡ padding (length bytes) =
-    ap (λ (b : List ℕ). drop (length bytes) b) (behind_is ∙ ap (λ (b : List ℕ). drop 24 b) zero ∙ drop-replicate 24 (length content) 0)
-    ∙ (drop-replicate (length bytes) (length content - 24) 0 ∙ ap (λ n. replicate n 0) (omega (arith, is))) in
-    ap (λ (t : List ℕ). t ++ tail) text_is
-    ∙ ap (λ (t : List ℕ). head back next name (length bytes) ++ t) (tail_is ∙ ap (λ (t : List ℕ). bytes ++ t) end)
+-- a header with the bytes behind it, and zero bytes behind them, is the fragment
+pub pieces_together : (back next name : ℕ) (bytes text : List ℕ) → length text ≡ 24 → text ≡ head back next name (length bytes) → filled text bytes ≡ fragment back next name bytes
+pieces_together back next name bytes text long is =
+    let both = length-append text bytes in
+    let end : object_size (length bytes) - 8 - length (text ++ bytes) ≡ object_size (length bytes) - (32 + length bytes) = omega (arith, both, long) in
+    ap (λ (n : ℕ). (text ++ bytes) ++ replicate n 0) end ∙ (append_assoc text bytes (padding (length bytes)) ∙ ap (λ (t : List ℕ). t ++ (bytes ++ padding (length bytes))) is)
 
 pub back_of_bytes : (back next name : ℕ) (bytes : List ℕ) → back < 2 ^ 64 → back_in (fragment back next name bytes) ≡ back
 back_of_bytes back next name bytes small = little_number-reads_back 8 back [] small

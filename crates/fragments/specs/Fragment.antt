@@ -18,6 +18,10 @@ body name bytes =
 abbrev pub fragment : ℕ → ℕ → ℕ → List ℕ → List ℕ
 fragment back next name bytes = little_bytes 8 back ++ little_bytes 8 next ++ body name bytes
 
+-- what a header and bytes behind it fill of an object of the fragment's size, and zero bytes behind them
+abbrev pub filled : List ℕ → List ℕ → List ℕ
+filled head bytes = (head ++ bytes) ++ replicate (object_size (length bytes) - descriptor - length (head ++ bytes)) 0
+
 -- what such a content says, field by field
 abbrev pub back_in : List ℕ → ℕ
 back_in content = little_number 8 content

@@ -1,5 +1,5 @@
 //! A fragment in the content of an object.
-ghost use Rattle.std.specs.Prelude.{◌≡◌, ◌↔◌, IsTrue, ℕ, ◌+◌, ◌-◌, ◌*◌, ◌<◌, ◌≤◌, ◌^◌, List, ◌++◌, length, take, drop, replicate};
+ghost use Rattle.std.specs.Prelude.{◌≡◌, ◌↔◌, IsTrue, ℕ, ◌+◌, ◌-◌, ◌*◌, ◌<◌, ◌≤◌, ◌^◌, List, ◌++◌, length, take, drop};
 ghost use Rattle.byteorder.specs.Endian.{little_bytes};
 ghost use Rattle.layout.specs.Sizes.{descriptor, greatest_object};
 ghost use Rattle.fragments.specs.Sizes as sizes;
@@ -121,33 +121,23 @@ pub(crate) fn set_next(content: &mut [u8], link: u64)
     LittleEndian::write_u64(&mut content[NEXT..], link);
 }
 
-// Writes a fragment that is the first of its chain into the content of a new object, all of whose bytes are 0.
-pub(crate) fn write_fragment(content: &mut [u8], next: u64, name: u32, bytes: &[u8])
+// The header of a fragment that is the first of its chain. With the bytes behind it, and zero bytes behind those up to the
+// fragment's size, the content of a new object is the fragment's.
+pub(crate) fn fragment_header(next: u64, name: u32, bytes: &[u8]) -> [u8; HEADER]
     requires short { length bytes.now ≤ sizes.fragment_bytes }
-    requires size { length content.old + descriptor ≡ sizes.object_size (length bytes.now) }
-    requires zero { content.old ≡ replicate (length content.old) 0 }
-    ensures bytes { content.new ≡ fragments.fragment place_links.no_link next name bytes.now }
-    ensures holds { fragments.HoldsFragment content.new name bytes.now }
-    ensures name { fragments.name_in content.new ≡ name }
-    ensures back { fragments.back_in content.new ≡ place_links.no_link }
-    ensures next { fragments.next_in content.new ≡ next }
+    ensures bytes { fragments.filled result bytes.now ≡ fragments.fragment place_links.no_link next name bytes.now }
+    ensures holds { fragments.HoldsFragment (fragments.filled result bytes.now) name bytes.now }
+    ensures back { fragments.back_in (fragments.filled result bytes.now) ≡ place_links.no_link }
+    ensures next { fragments.next_in (fragments.filled result bytes.now) ≡ next }
+    ensures long { length result ≡ sizes.header }
 {
-    let (header, behind) = content.split_at_mut(HEADER);
-    header.copy_from_slice(header_of(next, name, bytes.len() as u32).as_slice());
-    write_front(behind, bytes);
-}
-
-// Writes bytes over the first ones of a text.
-fn write_front(text: &mut [u8], bytes: &[u8])
-    requires { length bytes.now ≤ length text.old }
-    ensures { text.new ≡ bytes.now ++ drop (length bytes.now) text.old }
-{
-    text[..bytes.len()].copy_from_slice(bytes);
+    header_of(next, name, bytes.len() as u32)
 }
 
 // The bytes in front of those of the value, in a fragment that is the first of its chain.
 fn header_of(next: u64, name: u32, len: u32) -> [u8; HEADER]
     ensures bytes { result ≡ little_bytes 8 place_links.no_link ++ little_bytes 8 next ++ little_bytes 4 name ++ little_bytes 4 len }
+    ensures long { length result ≡ sizes.header }
     ensures next { next < 2 ^ 64 }
     ensures name { name < 2 ^ 32 }
 {

@@ -11,8 +11,9 @@ ghost use Rattle.regions.specs.Places as place_links;
 ghost use Rattle.fragments.specs.Fragment as fragments;
 ghost use Rattle.fragments.specs.inside.Linking as linking;
 
-use crate::bytes::{back_in, name_in, next_in, object_size, set_back, set_next, write_fragment};
+use crate::bytes::{back_in, fragment_header, name_in, next_in, object_size, set_back, set_next};
 use layout::ObjectKind;
+use object_log::NewContent;
 use regions::{Place, Region, led_to, link_to};
 
 // The group of all fragments.
@@ -124,12 +125,18 @@ pub(crate) fn place_fragment(
     ensures live_total { live_total region.new ≡ live_total region.old + object_size (length bytes.now) }
     ensures shape { shape region.new ≡ shape region.old }
 {
-    let Ok(place) = region.place(GROUP, ObjectKind::Fragment as u8, object_size(bytes.len())) else {
+    let header = fragment_header(link_to(next), name, bytes);
+    let content = NewContent::behind(header.as_slice(), bytes);
+    let Ok(place) = region.place_with(
+        GROUP,
+        ObjectKind::Fragment as u8,
+        object_size(bytes.len()),
+        content,
+    ) else {
         unreachable!()
     };
     // Of a place that was taken out of a result it is not known otherwise.
     segment_fits(place);
-    write_fragment(region.bytes_mut(place), link_to(next), name, bytes);
     place
 }
 

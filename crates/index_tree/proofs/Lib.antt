@@ -45,6 +45,7 @@ pub mod RemoveAdopt
 pub mod RemoveBelow
 pub mod RemoveCalls
 pub mod RemoveCarried
+pub mod RemoveCases
 pub mod RemoveFinal
 pub mod RemoveInner
 pub mod RemoveKept

@@ -2,6 +2,11 @@
 use Rattle.std.specs.Prelude.{◌≡◌, ℕ, ◌≤◌, ◌⊎◌, Bool, true, false, ◌+◌, ◌-◌, List, [], ◌∷◌, ◌++◌, length, take, drop, insert, remove, slice_set}
 use Rattle.tree_nodes.specs.Nodes.{Entry, TreeNode, children_count, child_at, entry_at, no_place, started}
 use Rattle.index_tree.specs.Links.{with_next}
+use Rattle.index_tree.specs.declared.moved_entry.MovedEntry.{MovedEntry}
+
+-- the entry that was copied out of a node
+abbrev pub entry_moved : MovedEntry → Entry
+entry_moved moved = record { key = take moved.len moved.key; number = moved.number }
 
 -- an entry more, or less, and further ones behind all
 abbrev pub gains : ℕ → Entry → TreeNode → TreeNode

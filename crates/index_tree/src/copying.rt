@@ -1,13 +1,17 @@
-//! Parts of the content of one node written into that of another, and parts taken away.
+//! What mends a node: a branch more or less, another key between two children, and all that another node has.
 ghost use Rattle.std.specs.Prelude.{◌≡◌, ℕ, ◌+◌, ◌<◌, ◌≤◌, length};
+ghost use Rattle.layout.specs.Sizes.{greatest_key};
 ghost use Rattle.tree_nodes.specs.Nodes as nodes;
 ghost use Rattle.tree_nodes.specs.Nodes.{IsNode, entry_at, node_in};
+ghost use Rattle.index_tree.specs.Links.{with_next};
 ghost use Rattle.index_tree.specs.Pairs as pairs;
 
-use tree_nodes::{add, child, count, cut, cut_child, key, number, set_child};
+use tree_nodes::{
+    add, add_child, child, count, cut, cut_child, key, next_leaf, number, set_child, set_next_leaf,
+};
 
 /// Adds an entry of one node to another.
-pub(crate) fn copy_entry(from: &[u8], k: u16, to: &mut [u8], i: u16)
+fn copy_entry(from: &[u8], k: u16, to: &mut [u8], i: u16)
     requires from { IsNode from.now }
     requires k { k < length (node_in from.now).entries }
     requires to { IsNode to.old }
@@ -19,34 +23,49 @@ pub(crate) fn copy_entry(from: &[u8], k: u16, to: &mut [u8], i: u16)
     add(to, i, key(from, k), number(from, k));
 }
 
-/// Adds the key of an entry of one node to another, with no number.
-pub(crate) fn copy_key(from: &[u8], k: u16, to: &mut [u8], i: u16)
-    requires from { IsNode from.now }
-    requires k { k < length (node_in from.now).entries }
-    requires to { IsNode to.old }
-    requires room { length (node_in to.old).entries < nodes.most_entries }
-    requires i { i ≤ length (node_in to.old).entries }
-    ensures node { node_in to.new ≡ pairs.gains i (pairs.separator (entry_at (node_in from.now) k).key) (node_in to.old) }
-    ensures holds { IsNode to.new }
+/// Makes a key that between two children of a node.
+pub(crate) fn separate(node: &mut [u8], j: u16, key: &[u8])
+    requires node { IsNode node.old }
+    requires j { j < length (node_in node.old).entries }
+    requires some_key { 1 ≤ length key.now }
+    requires short_key { length key.now ≤ greatest_key }
+    ensures node { node_in node.new ≡ pairs.separated j key.now (node_in node.old) }
+    ensures holds { IsNode node.new }
 {
-    add(to, i, key(from, k), 0);
+    cut(node, j);
+    add(node, j, key, 0);
 }
 
-/// Makes the key of an entry of one node that between two children of another.
-pub(crate) fn separate(from: &[u8], k: u16, parent: &mut [u8], j: u16)
-    requires from { IsNode from.now }
-    requires k { k < length (node_in from.now).entries }
-    requires parent { IsNode parent.old }
-    requires j { j < length (node_in parent.old).entries }
-    ensures node { node_in parent.new ≡ pairs.separated j (entry_at (node_in from.now) k).key (node_in parent.old) }
-    ensures holds { IsNode parent.new }
+/// Makes a place the first child of a node, with a key behind it.
+pub(crate) fn put_first(node: &mut [u8], key: &[u8], place: u64)
+    requires node { IsNode node.old }
+    requires room { length (node_in node.old).entries < nodes.most_entries }
+    requires some_key { 1 ≤ length key.now }
+    requires short_key { length key.now ≤ greatest_key }
+    ensures node { node_in node.new ≡ pairs.gains_child 0 place (pairs.gains 0 (pairs.separator key.now) (node_in node.old)) }
+    ensures holds { IsNode node.new }
 {
-    cut(parent, j);
-    copy_key(from, k, parent, j);
+    add(node, 0, key, 0);
+    add_child(node, 0, place);
+}
+
+/// Makes a place the last child of a node, with a key in front of it.
+pub(crate) fn put_last(node: &mut [u8], key: &[u8], place: u64)
+    requires node { IsNode node.old }
+    requires room { length (node_in node.old).entries < nodes.most_entries }
+    requires some_key { 1 ≤ length key.now }
+    requires short_key { length key.now ≤ greatest_key }
+    ensures node { node_in node.new ≡ pairs.with_child_at (length (node_in node.old).entries + 1) place
+        (pairs.gains (length (node_in node.old).entries) (pairs.separator key.now) (node_in node.old)) }
+    ensures holds { IsNode node.new }
+{
+    let end = count(node);
+    add(node, end, key, 0);
+    set_child(node, end + 1, place);
 }
 
 /// Adds all entries of one node behind those of another.
-pub(crate) fn copy_entries(from: &[u8], to: &mut [u8])
+fn copy_entries(from: &[u8], to: &mut [u8])
     requires from { IsNode from.now }
     requires to { IsNode to.old }
     requires room { length (node_in to.old).entries + length (node_in from.now).entries ≤ nodes.most_entries }
@@ -60,7 +79,7 @@ pub(crate) fn copy_entries(from: &[u8], to: &mut [u8])
 }
 
 /// Writes the first `n` children of one node over those of another from one on.
-pub(crate) fn copy_children(from: &[u8], n: u16, to: &mut [u8], at: u16)
+fn copy_children(from: &[u8], n: u16, to: &mut [u8], at: u16)
     requires from { IsNode from.now }
     requires to { IsNode to.old }
     requires room { at + n ≤ nodes.children_count }
@@ -72,23 +91,46 @@ pub(crate) fn copy_children(from: &[u8], n: u16, to: &mut [u8], at: u16)
     }
 }
 
-/// Takes the entry between two children of a node away, and the child behind it.
-pub(crate) fn drop_branch(node: &mut [u8], j: u16)
-    requires node { IsNode node.old }
-    requires j { j < length (node_in node.old).entries }
-    ensures node { node_in node.new ≡ pairs.gives_child (j + 1) (pairs.gives j (node_in node.old)) }
-    ensures holds { IsNode node.new }
+/// Adds all that one leaf has behind what another has, which takes its place among the leaves.
+pub(crate) fn take_leaf(from: &[u8], to: &mut [u8])
+    requires from { IsNode from.now }
+    requires to { IsNode to.old }
+    requires room { length (node_in to.old).entries + length (node_in from.now).entries ≤ nodes.most_entries }
+    ensures node { node_in to.new ≡ with_next (node_in from.now).next_leaf (pairs.takes (node_in from.now).entries (node_in to.old)) }
+    ensures holds { IsNode to.new }
 {
-    cut(node, j);
-    cut_child(node, j + 1);
+    copy_entries(from, to);
+    set_next_leaf(to, next_leaf(from));
 }
 
-/// Makes a node a free one.
-pub(crate) fn restart(node: &mut [u8])
-    requires { IsNode node.old }
-    ensures node { node_in node.new ≡ nodes.started 0 }
+/// Adds a key and all that one inner node has behind what another has.
+pub(crate) fn take_inner(from: &[u8], key: &[u8], to: &mut [u8])
+    requires from { IsNode from.now }
+    requires to { IsNode to.old }
+    requires room { length (node_in to.old).entries + length (node_in from.now).entries < nodes.most_entries }
+    requires some_key { 1 ≤ length key.now }
+    requires short_key { length key.now ≤ greatest_key }
+    ensures node { node_in to.new
+        ≡ pairs.with_children (length (node_in to.old).entries + 1) (node_in from.now).children
+        (length (node_in from.now).entries + 1)
+        (pairs.takes (node_in from.now).entries
+        (pairs.gains (length (node_in to.old).entries) (pairs.separator key.now) (node_in to.old))) }
+    ensures holds { IsNode to.new }
+{
+    let end = count(to);
+    add(to, end, key, 0);
+    copy_entries(from, to);
+    copy_children(from, count(from) + 1, to, end + 1);
+}
+
+/// Takes an entry and a child of a node away.
+pub(crate) fn cut_branch(node: &mut [u8], i: u16, k: u16)
+    requires node { IsNode node.old }
+    requires i { i < length (node_in node.old).entries }
+    requires k { k < nodes.children_count }
+    ensures node { node_in node.new ≡ pairs.gives_child k (pairs.gives i (node_in node.old)) }
     ensures holds { IsNode node.new }
 {
-    tree_nodes::a_node_is_read_as_it_is_written();
-    tree_nodes::start(node, 0);
+    cut(node, i);
+    cut_child(node, k);
 }

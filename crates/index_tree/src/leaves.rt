@@ -1,101 +1,107 @@
-//! Two leaves side by side, of which one has an entry too few, and their parent: their contents mended.
-ghost use Rattle.std.specs.Prelude.{◌≡◌, ℕ, ◌+◌, ◌<◌, ◌≤◌, ◌⊎◌, length};
-ghost use Rattle.tree_nodes.specs.Nodes as nodes;
-ghost use Rattle.tree_nodes.specs.Nodes.{IsNode, entry_at, node_in};
-ghost use Rattle.index_tree.specs.Links.{with_next};
-ghost use Rattle.index_tree.specs.Pairs as pairs;
+//! Two leaves side by side, of which one has an entry too few: mended where they stand, with their parent.
+ghost use Rattle.std.specs.Prelude.{◌≡◌, ◌≢◌, ◌≤◌, IfSome, false, length, true};
+ghost use Rattle.regions.specs.Contents.{live_at};
+ghost use Rattle.index_tree.specs.Mended.{AreUneven, IsMendedAt, OnlyThree};
+ghost use Rattle.index_tree.specs.Store.{HoldsNode, nodes_of};
 
-use crate::copying::{copy_entries, copy_entry, drop_branch, restart, separate};
-use tree_nodes::{HALF, count, cut, next_leaf, set_next_leaf};
+use crate::carrying::{content_at, moved_from};
+use crate::fields::count_at;
+use crate::writing::{add_at, cut_at, cut_branch_at, separate_at, start_at, take_leaf_at};
+use regions::{Place, Region};
+use tree_nodes::HALF;
 
-// The last entry of the left leaf becomes the first of the right one.
-fn give_right(parent: &mut [u8], j: u16, left: &mut [u8], right: &mut [u8])
-    requires parent { IsNode parent.old }
-    requires j { j < length (node_in parent.old).entries }
-    requires left { IsNode left.old }
-    requires some { 1 ≤ length (node_in left.old).entries }
-    requires right { IsNode right.old }
-    requires room { length (node_in right.old).entries < nodes.most_entries }
-    ensures parent { node_in parent.new
-        ≡ pairs.separated j (entry_at (node_in left.old) (pairs.last_of (node_in left.old))).key (node_in parent.old) }
-    ensures left { node_in left.new ≡ pairs.gives (pairs.last_of (node_in left.old)) (node_in left.old) }
-    ensures right { node_in right.new
-        ≡ pairs.gains 0 (entry_at (node_in left.old) (pairs.last_of (node_in left.old))) (node_in right.old) }
-    ensures holds_parent { IsNode parent.new }
-    ensures holds_left { IsNode left.new }
-    ensures holds_right { IsNode right.new }
+// The last entry of the left leaf, which has `end`, becomes the first of the right one.
+fn give_right(region: &mut Region, at: Place, j: u16, left: Place, right: Place, end: u16)
+    requires at { HoldsNode (live_at region.old) at }
+    requires left { HoldsNode (live_at region.old) left }
+    requires right { HoldsNode (live_at region.old) right }
+    requires far_left { left ≢ at }
+    requires far_right { right ≢ at }
+    requires apart { right ≢ left }
+    requires uneven { AreUneven (nodes_of (live_at region.old)) j at left right }
+    requires more { 9 ≤ end }
+    requires end { IfSome (nodes_of (live_at region.old) left) (λ node. end ≡ length node.entries) }
+    ensures mended { IsMendedAt false false j at left right (nodes_of (live_at region.old)) (nodes_of (live_at region.new)) }
+    ensures three { OnlyThree at left right region.old region.new }
 {
-    let end = count(left);
-    separate(left, end - 1, parent, j);
-    copy_entry(left, end - 1, right, 0);
-    cut(left, end - 1);
+    let moved = moved_from(region, left, end - 1);
+    separate_at(region, at, j, moved.key());
+    cut_at(region, left, end - 1);
+    add_at(region, right, 0, moved.key(), moved.number);
 }
 
-// The first entry of the right leaf becomes the last of the left one.
-fn give_left(parent: &mut [u8], j: u16, left: &mut [u8], right: &mut [u8])
-    requires parent { IsNode parent.old }
-    requires j { j < length (node_in parent.old).entries }
-    requires left { IsNode left.old }
-    requires room { length (node_in left.old).entries < nodes.most_entries }
-    requires right { IsNode right.old }
-    requires some { 2 ≤ length (node_in right.old).entries }
-    ensures parent { node_in parent.new
-        ≡ pairs.separated j (entry_at (pairs.gives 0 (node_in right.old)) 0).key (node_in parent.old) }
-    ensures left { node_in left.new
-        ≡ pairs.gains (length (node_in left.old).entries) (entry_at (node_in right.old) 0) (node_in left.old) }
-    ensures right { node_in right.new ≡ pairs.gives 0 (node_in right.old) }
-    ensures holds_parent { IsNode parent.new }
-    ensures holds_left { IsNode left.new }
-    ensures holds_right { IsNode right.new }
+// The first entry of the right leaf, which has `count`, becomes the last of the left one, which has `end`.
+fn give_left(
+    region: &mut Region,
+    at: Place,
+    j: u16,
+    left: Place,
+    right: Place,
+    end: u16,
+    count: u16,
+)
+    requires at { HoldsNode (live_at region.old) at }
+    requires left { HoldsNode (live_at region.old) left }
+    requires right { HoldsNode (live_at region.old) right }
+    requires far_left { left ≢ at }
+    requires far_right { right ≢ at }
+    requires apart { right ≢ left }
+    requires uneven { AreUneven (nodes_of (live_at region.old)) j at left right }
+    requires more { 9 ≤ count }
+    requires end { IfSome (nodes_of (live_at region.old) left) (λ node. end ≡ length node.entries) }
+    requires count { IfSome (nodes_of (live_at region.old) right) (λ node. count ≡ length node.entries) }
+    ensures mended { IsMendedAt false false j at left right (nodes_of (live_at region.old)) (nodes_of (live_at region.new)) }
+    ensures three { OnlyThree at left right region.old region.new }
 {
-    let end = count(left);
-    copy_entry(right, 0, left, end);
-    cut(right, 0);
-    separate(right, 0, parent, j);
+    let moved = moved_from(region, right, 0);
+    let next = moved_from(region, right, 1);
+    separate_at(region, at, j, next.key());
+    add_at(region, left, end, moved.key(), moved.number);
+    cut_at(region, right, 0);
 }
 
 // The left leaf takes all that the right one has, and its place in the parent and among the leaves.
-fn join(parent: &mut [u8], j: u16, left: &mut [u8], right: &[u8])
-    requires parent { IsNode parent.old }
-    requires j { j < length (node_in parent.old).entries }
-    requires left { IsNode left.old }
-    requires right { IsNode right.now }
-    requires room { length (node_in left.old).entries + length (node_in right.now).entries ≤ nodes.most_entries }
-    ensures parent { node_in parent.new ≡ pairs.gives_child (j + 1) (pairs.gives j (node_in parent.old)) }
-    ensures left { node_in left.new
-        ≡ with_next (node_in right.now).next_leaf (pairs.takes (node_in right.now).entries (node_in left.old)) }
-    ensures holds_parent { IsNode parent.new }
-    ensures holds_left { IsNode left.new }
+fn join(region: &mut Region, at: Place, j: u16, left: Place, right: Place)
+    requires at { HoldsNode (live_at region.old) at }
+    requires left { HoldsNode (live_at region.old) left }
+    requires right { HoldsNode (live_at region.old) right }
+    requires far_left { left ≢ at }
+    requires far_right { right ≢ at }
+    requires apart { right ≢ left }
+    requires uneven { AreUneven (nodes_of (live_at region.old)) j at left right }
+    requires few_left { IfSome (nodes_of (live_at region.old) left) (λ node. length node.entries ≤ 8) }
+    requires few_right { IfSome (nodes_of (live_at region.old) right) (λ node. length node.entries ≤ 8) }
+    ensures mended { IsMendedAt false true j at left right (nodes_of (live_at region.old)) (nodes_of (live_at region.new)) }
+    ensures three { OnlyThree at left right region.old region.new }
 {
-    copy_entries(right, left);
-    set_next_leaf(left, next_leaf(right));
-    drop_branch(parent, j);
+    let content = content_at(region, right);
+    cut_branch_at(region, at, j, j + 1);
+    take_leaf_at(region, left, &content);
+    start_at(region, right, 0);
 }
 
 /// Mends two leaves, and answers whether the right one is free now.
-pub(crate) fn mend_leaves(parent: &mut [u8], j: u16, left: &mut [u8], right: &mut [u8]) -> bool
-    requires parent { IsNode parent.old }
-    requires j { j < length (node_in parent.old).entries }
-    requires left { IsNode left.old }
-    requires right { IsNode right.old }
-    requires few { (length (node_in left.old).entries ≡ 7) ⊎ (length (node_in right.old).entries ≡ 7) }
-    requires some_left { 7 ≤ length (node_in left.old).entries }
-    requires some_right { 7 ≤ length (node_in right.old).entries }
-    ensures mended { pairs.AreMended result j (node_in parent.old) (node_in left.old) (node_in right.old)
-        (node_in parent.new) (node_in left.new) (node_in right.new) }
-    ensures holds_parent { IsNode parent.new }
-    ensures holds_left { IsNode left.new }
-    ensures holds_right { IsNode right.new }
+pub(crate) fn mend_leaves(region: &mut Region, at: Place, j: u16, left: Place, right: Place) -> bool
+    requires at { HoldsNode (live_at region.old) at }
+    requires left { HoldsNode (live_at region.old) left }
+    requires right { HoldsNode (live_at region.old) right }
+    requires far_left { left ≢ at }
+    requires far_right { right ≢ at }
+    requires apart { right ≢ left }
+    requires uneven { AreUneven (nodes_of (live_at region.old)) j at left right }
+    ensures mended { IsMendedAt false result j at left right (nodes_of (live_at region.old)) (nodes_of (live_at region.new)) }
+    ensures three { OnlyThree at left right region.old region.new }
 {
-    if count(left) > HALF {
-        give_right(parent, j, left, right);
+    let end = count_at(region, left);
+    if end > HALF {
+        give_right(region, at, j, left, right, end);
         return false;
     }
-    if count(right) > HALF {
-        give_left(parent, j, left, right);
+    let count = count_at(region, right);
+    if count > HALF {
+        give_left(region, at, j, left, right, end, count);
         return false;
     }
-    join(parent, j, left, right);
-    restart(right);
+    join(region, at, j, left, right);
     true
 }

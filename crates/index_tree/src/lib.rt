@@ -7,6 +7,7 @@
 #![tactic(auto)]
 
 mod adopting;
+mod carrying;
 mod climbing;
 mod copying;
 mod fields;
@@ -15,6 +16,7 @@ mod inserting;
 mod law;
 mod leaves;
 mod mending;
+mod moved_entry;
 mod pairs;
 mod placing;
 mod planting;

@@ -5,7 +5,6 @@ ghost use Rattle.std.specs.Option.{option_to_list};
 ghost use Rattle.regions.specs.Contents.{live_at};
 ghost use Rattle.regions.specs.Stores.{SameBut};
 ghost use Rattle.regions.specs.declared.place.Place.{Place};
-ghost use Rattle.tree_nodes.specs.Nodes.{IsNode, node_in};
 ghost use Rattle.tree_nodes.specs.Order.{AreRising, count_below};
 ghost use Rattle.index_tree.specs.Indexes.{number_of};
 ghost use Rattle.index_tree.specs.Links.{Nodes};
@@ -17,46 +16,13 @@ ghost use Rattle.index_tree.specs.Writes.{WritesNode, blank, without_entries};
 
 use crate::adopting::adopt_all;
 use crate::fields::{child_of, count_at};
-use crate::pairs::mend_contents;
+use crate::leaves::mend_leaves;
+use crate::pairs::mend_above;
 use crate::search::{below_at, has_at, number_at, way_at};
 use crate::spares::Spares;
 use crate::writing::cut_run_at;
 use regions::{Place, Region, place_of};
 use tree_nodes::HALF;
-
-/// The bytes of a node's content.
-const NODE: usize = 4384;
-
-// The content of a node, copied.
-fn copied(content: &[u8]) -> [u8; NODE]
-    requires { IsNode content.now }
-    ensures { result ≡ content.now }
-{
-    tree_nodes::a_node_is_read_as_it_is_written();
-    let Ok(copy) = <[u8; NODE]>::try_from(content) else {
-        unreachable!()
-    };
-    copy
-}
-
-// The content of the node at a place.
-fn content_at(region: &Region, at: Place) -> [u8; NODE]
-    requires { HoldsNode (live_at region.now) at }
-    ensures holds { IsNode result }
-    ensures node { nodes_of (live_at region.now) at ≡ Some (node_in result) }
-{
-    copied(region.bytes(at))
-}
-
-// Writes a content over that of the node at a place.
-fn write_at(region: &mut Region, at: Place, content: &[u8])
-    requires node { HoldsNode (live_at region.old) at }
-    requires content { IsNode content.now }
-    ensures { WritesNode at (λ _. node_in content.now) region.old region.new }
-{
-    tree_nodes::a_node_is_read_as_it_is_written();
-    region.bytes_mut(at).copy_from_slice(content);
-}
 
 // Mends two nodes side by side of which one has an entry too few, and answers whether the right one is free now. The children that
 // they got have the old parent still.
@@ -71,20 +37,10 @@ fn mend_pair(region: &mut Region, above: bool, at: Place, j: u16, left: Place, r
     ensures mended { IsMendedAt above result j at left right (nodes_of (live_at region.old)) (nodes_of (live_at region.new)) }
     ensures three { OnlyThree at left right region.old region.new }
 {
-    let mut parent_content = content_at(region, at);
-    let mut left_content = content_at(region, left);
-    let mut right_content = content_at(region, right);
-    let joined = mend_contents(
-        above,
-        &mut parent_content,
-        j,
-        &mut left_content,
-        &mut right_content,
-    );
-    write_at(region, at, &parent_content);
-    write_at(region, left, &left_content);
-    write_at(region, right, &right_content);
-    joined
+    if above {
+        return mend_above(region, at, j, left, right);
+    }
+    mend_leaves(region, at, j, left, right)
 }
 
 // Mends a child of the inner node at a place that has an entry too few, with the one beside it. Gives the place of a node that is

@@ -11,6 +11,7 @@ ghost use Rattle.index_tree.specs.Writes.{WritesNode};
 ghost use Rattle.regions.specs.Places as place_links;
 
 use crate::adopting::adopt;
+use crate::carrying::filled;
 use crate::fields::{set_child_of, set_next_at};
 use crate::split::Split;
 use crate::writing::{add_at, add_child_at, copy_node, cut_children_at, cut_run_at};
@@ -39,16 +40,6 @@ pub(crate) fn split_before(region: &Region, at: Place, i: u16, place: Place) -> 
         len: key.len() as u16,
         key: filled(key),
     }
-}
-
-// A key, and zero bytes behind it.
-fn filled(key: &[u8]) -> [u8; 256]
-    requires { length key.now ≤ greatest_key }
-    ensures { take (length key.now) result ≡ key.now }
-{
-    let mut all = [0u8; 256];
-    all[..key.len()].copy_from_slice(key);
-    all
 }
 
 /// Cuts a full leaf in two, with an entry more. The upper part goes to the new node, which stands behind.

@@ -2,11 +2,14 @@
 ghost use Rattle.std.specs.Prelude.{◌≡◌, ℕ, ◌+◌, ◌<◌, ◌≤◌, ◌^◌, IfSome, Some, length};
 ghost use Rattle.layout.specs.Sizes.{greatest_key};
 ghost use Rattle.regions.specs.Contents.{live_at};
-ghost use Rattle.tree_nodes.specs.Nodes.{TreeNode, children_count, most_entries, started};
+ghost use Rattle.tree_nodes.specs.Nodes.{TreeNode, IsNode, children_count, most_entries, node_in, started};
+ghost use Rattle.index_tree.specs.Links.{with_next};
+ghost use Rattle.index_tree.specs.Pairs as pairs;
 ghost use Rattle.index_tree.specs.Store.{HoldsNode, nodes_of};
 ghost use Rattle.index_tree.specs.Writes as writes;
 ghost use Rattle.index_tree.specs.Writes.{WritesNode};
 
+use crate::copying::{cut_branch, put_first, put_last, separate, take_inner, take_leaf};
 use regions::{Place, Region};
 
 /// Makes the node at a place one of a level, with no key and no place.
@@ -79,4 +82,91 @@ pub(crate) fn copy_node(region: &mut Region, from: Place, to: Place)
 {
     tree_nodes::a_node_is_read_as_it_is_written();
     region.copy(from, to);
+}
+
+/// Takes an entry of the node at a place away.
+pub(crate) fn cut_at(region: &mut Region, at: Place, i: u16)
+    requires node { HoldsNode (live_at region.old) at }
+    requires i { IfSome (nodes_of (live_at region.old) at) (λ node. i < length node.entries) }
+    ensures { WritesNode at (pairs.gives i) region.old region.new }
+{
+    tree_nodes::a_node_is_read_as_it_is_written();
+    tree_nodes::cut(region.bytes_mut(at), i);
+}
+
+/// Takes an entry and a child of the node at a place away.
+pub(crate) fn cut_branch_at(region: &mut Region, at: Place, i: u16, k: u16)
+    requires node { HoldsNode (live_at region.old) at }
+    requires i { IfSome (nodes_of (live_at region.old) at) (λ node. i < length node.entries) }
+    requires k { k < children_count }
+    ensures { WritesNode at (λ node. pairs.gives_child k (pairs.gives i node)) region.old region.new }
+{
+    tree_nodes::a_node_is_read_as_it_is_written();
+    cut_branch(region.bytes_mut(at), i, k);
+}
+
+/// Makes a key that between two children of the node at a place.
+pub(crate) fn separate_at(region: &mut Region, at: Place, j: u16, key: &[u8])
+    requires node { HoldsNode (live_at region.old) at }
+    requires j { IfSome (nodes_of (live_at region.old) at) (λ node. j < length node.entries) }
+    requires some_key { 1 ≤ length key.now }
+    requires short_key { length key.now ≤ greatest_key }
+    ensures { WritesNode at (pairs.separated j key.now) region.old region.new }
+{
+    tree_nodes::a_node_is_read_as_it_is_written();
+    separate(region.bytes_mut(at), j, key);
+}
+
+/// Makes a number of a place the first child of the node at a place, with a key behind it.
+pub(crate) fn put_first_at(region: &mut Region, at: Place, key: &[u8], link: u64)
+    requires node { HoldsNode (live_at region.old) at }
+    requires room { IfSome (nodes_of (live_at region.old) at) (λ node. length node.entries < most_entries) }
+    requires some_key { 1 ≤ length key.now }
+    requires short_key { length key.now ≤ greatest_key }
+    ensures { WritesNode at (λ node. pairs.gains_child 0 link (pairs.gains 0 (pairs.separator key.now) node)) region.old region.new }
+{
+    tree_nodes::a_node_is_read_as_it_is_written();
+    put_first(region.bytes_mut(at), key, link);
+}
+
+/// Makes a number of a place the last child of the node at a place, with a key in front of it.
+pub(crate) fn put_last_at(region: &mut Region, at: Place, key: &[u8], link: u64)
+    requires node { HoldsNode (live_at region.old) at }
+    requires room { IfSome (nodes_of (live_at region.old) at) (λ node. length node.entries < most_entries) }
+    requires some_key { 1 ≤ length key.now }
+    requires short_key { length key.now ≤ greatest_key }
+    ensures { WritesNode at (λ node. pairs.with_child_at (length node.entries + 1) link
+        (pairs.gains (length node.entries) (pairs.separator key.now) node)) region.old region.new }
+{
+    tree_nodes::a_node_is_read_as_it_is_written();
+    put_last(region.bytes_mut(at), key, link);
+}
+
+/// Adds all that a leaf has behind what the leaf at a place has, which takes its place among the leaves.
+pub(crate) fn take_leaf_at(region: &mut Region, at: Place, content: &[u8])
+    requires node { HoldsNode (live_at region.old) at }
+    requires content { IsNode content.now }
+    requires room { IfSome (nodes_of (live_at region.old) at)
+        (λ node. length node.entries + length (node_in content.now).entries ≤ most_entries) }
+    ensures { WritesNode at (λ node. with_next (node_in content.now).next_leaf (pairs.takes (node_in content.now).entries node))
+        region.old region.new }
+{
+    tree_nodes::a_node_is_read_as_it_is_written();
+    take_leaf(content, region.bytes_mut(at));
+}
+
+/// Adds a key and all that an inner node has behind what the inner node at a place has.
+pub(crate) fn take_inner_at(region: &mut Region, at: Place, key: &[u8], content: &[u8])
+    requires node { HoldsNode (live_at region.old) at }
+    requires content { IsNode content.now }
+    requires room { IfSome (nodes_of (live_at region.old) at)
+        (λ node. length node.entries + length (node_in content.now).entries < most_entries) }
+    requires some_key { 1 ≤ length key.now }
+    requires short_key { length key.now ≤ greatest_key }
+    ensures { WritesNode at (λ node. pairs.with_children (length node.entries + 1) (node_in content.now).children
+        (length (node_in content.now).entries + 1) (pairs.takes (node_in content.now).entries
+        (pairs.gains (length node.entries) (pairs.separator key.now) node))) region.old region.new }
+{
+    tree_nodes::a_node_is_read_as_it_is_written();
+    take_inner(content, key, region.bytes_mut(at));
 }

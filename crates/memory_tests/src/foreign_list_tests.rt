@@ -1,6 +1,6 @@
 //! What no clause says: that memory is found, who wins a race, and in which order blocks come home.
 ghost use Rattle.std.specs.Prelude.{◌≡◌, ◌≤◌, [], IfOk};
-ghost use Rattle.foreign_list.specs.OwnerSeats.{IsSeatOf, IsIdle};
+ghost use Rattle.foreign_list.specs.OwnerSeats.{IsSeatOf};
 
 use foreign_list::{
     Foreign, ForeignBlock, LinkedBlock, OwnerSeat, Released, Tally, law_of_the_list,
@@ -22,30 +22,34 @@ fn piece_of(alloc: Global, owner: u32) -> Result<Piece, AllocError>
     Ok(range.take(16, 64))
 }
 
-// Lends the tickets 0 and 8.
+// Lends two tickets that are idle.
 fn lend_two<'f>(
+    rt: &impl Abort,
     alloc: Global,
     list: &'f Foreign,
     seat: &mut OwnerSeat,
+    tickets: (u32, u32),
 ) -> Result<(ForeignBlock<'f>, ForeignBlock<'f>), AllocError>
     requires seat { IsSeatOf list.now seat.old × (seat.old.walk ≡ []) }
     requires owner { list.now.owner ≡ 3 }
-    requires idle { IsIdle seat.old 0 × IsIdle seat.old 8 }
     ensures { IsSeatOf list.now seat.new × (seat.new.walk ≡ []) }
 {
-    let a = list.lend(seat, 0, piece_of(alloc, OWNER)?);
-    let b = list.lend(seat, 8, piece_of(alloc, OWNER)?);
+    let (first, second) = tickets;
+    assert!(rt; seat.is_idle(first));
+    let a = list.lend(seat, first, piece_of(alloc, OWNER)?);
+    assert!(rt; seat.is_idle(second));
+    let b = list.lend(seat, second, piece_of(alloc, OWNER)?);
     Ok((a, b))
 }
 
-// The ticket 8 comes home, then 0, and then none.
-fn expect_two(rt: &impl Abort, list: &Foreign, seat: &mut OwnerSeat)
+// The second of these tickets comes home, then the first, and then none.
+fn expect_two(rt: &impl Abort, list: &Foreign, seat: &mut OwnerSeat, tickets: (u32, u32))
     requires { IsSeatOf list.now seat.old }
     ensures { IsSeatOf list.now seat.new }
 {
-    let first = list.next_back(seat).expect(rt, "none came home");
-    let second = list.next_back(seat).expect(rt, "one came home");
-    assert_eq!(rt; (first.ticket, second.ticket), (8, 0));
+    let newest = list.next_back(seat).expect(rt, "none came home");
+    let oldest = list.next_back(seat).expect(rt, "one came home");
+    assert_eq!(rt; (oldest.ticket, newest.ticket), tickets);
     assert!(rt; list.next_back(seat).is_none());
 }
 
@@ -102,7 +106,7 @@ fn idle_of(seat: &OwnerSeat) -> [bool; 4] {
 fn the_newest_comes_home_first(rt: HostRuntime) -> Result<(), Fail> {
     let alloc = rt.alloc();
     let (list, mut seat) = Foreign::new(alloc, OWNER)?;
-    let (a, b) = lend_two(alloc, &list, &mut seat)?;
+    let (a, b) = lend_two(&rt, alloc, &list, &mut seat, (0, 8))?;
     assert_eq!(rt; (a.home(), a.ticket(), b.ticket()), (OWNER, 0, 8));
     assert_eq!(rt; idle_of(&seat), [false, true, false, false]);
     let mut tally = Tally::new();
@@ -114,57 +118,63 @@ fn the_newest_comes_home_first(rt: HostRuntime) -> Result<(), Fail> {
     );
     list.take_whole(&mut seat);
     assert_eq!(rt; idle_of(&seat), [false, true, false, false]);
-    expect_two(&rt, &list, &mut seat);
+    expect_two(&rt, &list, &mut seat, (0, 8));
     assert_eq!(rt; idle_of(&seat), [true, true, true, false]);
     close_idle(&rt, list, seat);
     law_of_the_list();
     Ok(())
 }
 
-#[test]
-fn a_swing_races_with_another(rt: HostRuntime) -> Result<(), Fail> {
-    let alloc = rt.alloc();
+// The swing of the second ticket races with that of the first, and is tried again.
+fn race_with_another(rt: &impl Abort, alloc: Global, tickets: (u32, u32)) -> Result<(), Fail> {
     let (list, mut seat) = Foreign::new(alloc, OWNER)?;
-    let (a, b) = lend_two(alloc, &list, &mut seat)?;
+    let (a, b) = lend_two(rt, alloc, &list, &mut seat, tickets)?;
     let a = a.begin();
     let b = b.begin();
-    drop(swing(&rt, a));
-    let b = race(&rt, b, None, Some(0));
-    drop(release(&rt, b));
+    drop(swing(rt, a));
+    let b = race(rt, b, None, Some(tickets.0));
+    drop(release(rt, b));
     list.take_whole(&mut seat);
-    expect_two(&rt, &list, &mut seat);
+    expect_two(rt, &list, &mut seat, tickets);
     Ok(())
 }
 
-#[test]
-fn a_swing_races_with_a_take_whole(rt: HostRuntime) -> Result<(), Fail> {
-    let alloc = rt.alloc();
+// It races with a take-whole.
+fn race_with_a_take_whole(rt: &impl Abort, alloc: Global, tickets: (u32, u32)) -> Result<(), Fail> {
     let (list, mut seat) = Foreign::new(alloc, OWNER)?;
-    let (a, b) = lend_two(alloc, &list, &mut seat)?;
-    drop(release(&rt, a));
+    let (a, b) = lend_two(rt, alloc, &list, &mut seat, tickets)?;
+    drop(release(rt, a));
     let b = b.begin();
     list.take_whole(&mut seat);
-    drop(race(&rt, b, Some(0), None));
+    drop(race(rt, b, Some(tickets.0), None));
     Ok(())
 }
 
 // The head is again the ticket that the block saw, lent anew meanwhile. The link to it is as good as ever.
-#[test]
-fn a_head_that_came_again_is_the_one_expected(rt: HostRuntime) -> Result<(), Fail> {
-    let alloc = rt.alloc();
+fn meet_the_same_head(rt: &impl Abort, alloc: Global, tickets: (u32, u32)) -> Result<(), Fail> {
     let (list, mut seat) = Foreign::new(alloc, OWNER)?;
-    let (a, b) = lend_two(alloc, &list, &mut seat)?;
-    drop(release(&rt, a));
+    let (a, b) = lend_two(rt, alloc, &list, &mut seat, tickets)?;
+    drop(release(rt, a));
     let b = b.begin();
     list.take_whole(&mut seat);
-    let back = list.next_back(&mut seat).expect(&rt, "none came home");
-    assert_eq!(rt; back.ticket, 0);
+    let back = list.next_back(&mut seat).expect(rt, "none came home");
+    assert_eq!(rt; back.ticket, tickets.0);
     assert!(rt; list.next_back(&mut seat).is_none());
-    assert!(rt; seat.is_idle(0) && back.piece.owner() == OWNER);
-    drop(release(&rt, list.lend(&mut seat, 0, back.piece)));
-    drop(swing(&rt, b));
+    assert!(rt; seat.is_idle(tickets.0) && back.piece.owner() == OWNER);
+    drop(release(rt, list.lend(&mut seat, tickets.0, back.piece)));
+    drop(swing(rt, b));
     list.take_whole(&mut seat);
-    expect_two(&rt, &list, &mut seat);
+    expect_two(rt, &list, &mut seat, tickets);
+    Ok(())
+}
+
+#[test]
+fn a_swing_may_race(rt: HostRuntime) -> Result<(), Fail> {
+    for tickets in [(0, 8), (30, 31)] {
+        race_with_another(&rt, rt.alloc(), tickets)?;
+        race_with_a_take_whole(&rt, rt.alloc(), tickets)?;
+        meet_the_same_head(&rt, rt.alloc(), tickets)?;
+    }
     Ok(())
 }
 

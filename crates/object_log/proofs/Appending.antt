@@ -1,7 +1,7 @@
 -- What a segment reads as once an object is behind the others.
-use Rattle.std.proofs.Common.{◌≡◌, ℕ, ◌+◌, ◌-◌, ◌<◌, ◌≤◌, ◌⊎◌, inl, inr, List, [], ◌∷◌, ◌++◌, length, take, drop, replicate, refl, sym, ap, ◌∙◌, subst, arith, length-take-le}
+use Rattle.std.proofs.Common.{◌≡◌, ℕ, ◌+◌, ◌-◌, ◌<◌, ◌≤◌, ◌⊎◌, inl, inr, List, [], ◌∷◌, ◌++◌, length, take, drop, refl, sym, ap, ◌∙◌, subst, arith, length-take-le}
 use Rattle.std.specs.Prelude.{slice_index}
-use Rattle.std.proofs.lemmas.List.{get_or-take, get_or_append_left, get_or-append-add, drop-take, take-take, length-replicate}
+use Rattle.std.proofs.lemmas.List.{get_or-take, get_or_append_left, get_or-append-add, drop-take, take-take}
 use Rattle.std.proofs.Math.Seq.{drop-append-add, take-append_seam}
 use Rattle.layout.specs.Sizes.{segment, descriptor}
 use Rattle.byteorder.specs.Endian.{little_number}
@@ -10,13 +10,13 @@ use Rattle.object_log.specs.inside.Made.{object_bytes}
 use Rattle.object_log.specs.Objects.{Object, live, object_at, objects, IsObject, IsSize, AreObjects, IsSegment, IsEnd}
 use Rattle.object_log.proofs.Reading.{SameOn, objects-are, objects-same, objects-snoc, object-same, object-is}
 
-module _ (old mid new : List ℕ) (used kind size : ℕ) (long : length old ≡ 131072) (room : used + size ≤ 131072) (fits : IsSize size) (more : 1 ≤ kind)
-    (laid : mid ≡ take used old ++ (object_bytes kind size ++ drop (used + size) old)) (kept : take (used + size) new ≡ take (used + size) mid) where
+module _ (old mid new content : List ℕ) (used kind size : ℕ) (full : length content ≡ size - 8) (long : length old ≡ 131072) (room : used + size ≤ 131072) (fits : IsSize size) (more : 1 ≤ kind)
+    (laid : mid ≡ take used old ++ (object_bytes kind size content ++ drop (used + size) old)) (kept : take (used + size) new ≡ take (used + size) mid) where
   abbrev front : List ℕ
   front = take used old
 
   abbrev back : List ℕ
-  back = object_bytes kind size ++ drop (used + size) old
+  back = object_bytes kind size content ++ drop (used + size) old
 
   filled : length front ≡ used
   filled = length-take-le used old (omega (arith, long, room))
@@ -41,7 +41,7 @@ module _ (old mid new : List ℕ) (used kind size : ℕ) (long : length old ≡ 
   made =
       object-same used mid new (λ i low high. new-is-mid i (omega (arith, high, fits.0)))
       ∙ object-is used _ _ _ _ _ _ (ap (slice_index mid) (omega arith) ∙ mid-behind 0) (mid-behind 1)
-      (ap (little_number 4) (drop-behind 4) ∙ little_number-reads_back 4 size (replicate (size - 8) 0 ++ drop (used + size) old) (omega (arith, fits.1)))
+      (ap (little_number 4) (drop-behind 4) ∙ little_number-reads_back 4 size (content ++ drop (used + size) old) (omega (arith, fits.1)))
 
   is-object : IsObject new (live used kind size)
   is-object = (inl refl, more, new-behind 2 (omega (arith, fits.0)), new-behind 3 (omega (arith, fits.0)), fits)
@@ -49,11 +49,11 @@ module _ (old mid new : List ℕ) (used kind size : ℕ) (long : length old ≡ 
   snoc : (os : List Object) → AreObjects old 0 used os → AreObjects new 0 (used + size) (os ++ live used kind size ∷ [])
   snoc os h = objects-snoc new 0 used os (live used kind size) (objects-same 0 used old new os below h) (sym made) is-object
 
-  pub content-zero : take (size - 8) (drop (used + 8) new) ≡ replicate (size - 8) 0
-  content-zero =
-      let e : used + size ≡ used + 8 + (size - 8) = omega (arith, fits.0) in let zeros = replicate (size - 8) 0 in let tail = drop (used + size) old in
+  pub content-laid : take (size - 8) (drop (used + 8) new) ≡ content
+  content-laid =
+      let e : used + size ≡ used + 8 + (size - 8) = omega (arith, fits.0) in let tail = drop (used + size) old in
       sym (drop-take (used + 8) (size - 8) new) ∙ ap (λ k. drop (used + 8) (take k new)) (sym e) ∙ ap (drop (used + 8)) kept ∙ ap (λ k. drop (used + 8) (take k mid)) e
-      ∙ drop-take (used + 8) (size - 8) mid ∙ ap (take (size - 8)) (drop-behind 8) ∙ ap (λ k. take k (zeros ++ tail)) (sym (length-replicate (size - 8) 0)) ∙ take-append_seam zeros tail
+      ∙ drop-take (used + 8) (size - 8) mid ∙ ap (take (size - 8)) (drop-behind 8) ∙ ap (λ k. take k (content ++ tail)) (sym full) ∙ take-append_seam content tail
 
   pub front-kept : take used new ≡ take used old
   front-kept =

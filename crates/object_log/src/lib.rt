@@ -8,8 +8,10 @@
 
 mod descriptor;
 mod log;
+mod new_content;
 mod walking;
 
 pub use descriptor::{Descriptor, State, content_extent, read_descriptor};
-pub use log::{append, kill};
+pub use log::{append, append_with, kill};
+pub use new_content::NewContent;
 pub use walking::Walk;

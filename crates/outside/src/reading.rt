@@ -24,7 +24,7 @@ pub enum ReadStop {
 }
 
 // How many bytes a read asks for at most.
-const PIECE: usize = 64 * 1024;
+const PIECE: usize = 256 * 1024;
 
 // How many the first read asks for.
 const FIRST_PIECE: usize = 4 * 1024;

@@ -17,3 +17,4 @@ pub mod Totals
 pub mod Stores
 pub mod Walked
 pub mod Copied
+pub mod CopiedWhole

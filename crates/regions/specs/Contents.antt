@@ -54,9 +54,13 @@ item_if_live (Some s) = if_live s.live s.item
 abbrev pub live_at : RegionState → Place → Option Item
 live_at r p = item_if_live (standing_at r p)
 
+-- a new object with a content
+abbrev pub holding : Option ℕ → ℕ → List ℕ → Standing
+holding group kind content = record { live = true; item = record { group = group; kind = kind; content = content } }
+
 -- a new object of the size, whose content is zero
 abbrev pub zeros : Option ℕ → ℕ → ℕ → Standing
-zeros group kind size = record { live = true; item = record { group = group; kind = kind; content = replicate (size - descriptor) 0 } }
+zeros group kind size = holding group kind (replicate (size - descriptor) 0)
 
 abbrev pub dead : Standing → Standing
 dead s = record s { live = false }

@@ -1,20 +1,20 @@
 //! The segments of one shard, their groups, and the objects in them.
-ghost use Rattle.std.specs.Prelude.{◌≡◌, ◌↔◌, ◌⊎◌, ℕ, ◌+◌, ◌-◌, ◌^◌, ◌<◌, ◌≤◌, List, length, Some, None, option_map, replicate, IfOk, IfErr, IfSome, IsSome, IsNone, IsErr};
+ghost use Rattle.std.specs.Prelude.{◌≡◌, ◌↔◌, ℕ, ◌+◌, ◌-◌, ◌<◌, ◌≤◌, List, length, Some, None, option_map, replicate, IfOk, IfSome, IsSome, IsNone};
 ghost use Rattle.std.specs.Borrow.{sem};
 ghost use Rattle.layout.specs.Sizes as sizes;
 ghost use Rattle.number_set.specs.Numbers.{size, IsLeast, IsGreatest, IsLeastAbsent};
-ghost use Rattle.object_log.specs.Objects.{IsSize};
 ghost use Rattle.regions.specs.Segments.{segment_at, with_segment, with_guards, fresh, idle, all_emptied};
-ghost use Rattle.regions.specs.Shapes.{shape, group_of, active_of, guards_of, most_guards, pieces, held_count, free_count, activated, HasGroup, IsUnguarded, IsClosedIn, IsLeastFree, IsGreatestFree, IsGreatestHeld, IsLeastUnused};
-ghost use Rattle.regions.specs.Counts.{used_counts, live_counts, used_at, used_total, live_total, plus, left};
-ghost use Rattle.regions.specs.Contents.{standing_at, live_at, size_of, zeros, dead, with_bytes, rewritten, ChangesAt, Keeps};
+ghost use Rattle.regions.specs.Shapes.{shape, active_of, guards_of, most_guards, pieces, held_count, free_count, activated, HasGroup, IsUnguarded, IsClosedIn, IsLeastFree, IsGreatestFree, IsGreatestHeld, IsLeastUnused};
+ghost use Rattle.regions.specs.Counts.{used_counts, live_counts, live_total, plus, left};
+ghost use Rattle.regions.specs.Contents.{standing_at, live_at, size_of, dead, with_bytes, rewritten, ChangesAt, Keeps};
 ghost use Rattle.regions.specs.Lends.{LendsContent, with_content};
 
 mod closed;
+mod placing;
 mod reading;
 
 use crate::group::{Group, clear_groups, new_groups};
-use crate::place::{NeedSegment, Place};
+use crate::place::Place;
 use crate::segment::Segment;
 use crate::slots::{clear_all, copy_into, group_begun, piece_of, segment_mut};
 use layout::SEGMENT;
@@ -151,72 +151,6 @@ impl Region {
         segment_mut(&mut self.slots[number as usize]).begin(group);
         self.free.remove(number);
         self.groups[group as usize].begin(number);
-    }
-
-    /// Adds a live object of `size` bytes, its descriptor included, to the active segment of the group, and answers where it
-    /// stands. Its content is zero.
-    ///
-    /// # Errors
-    /// `NeedSegment` where the group has no active segment, or that has less than `size` bytes left. Nothing changed.
-    pub fn place(&mut self, group: u32, kind: u8, size: u32) -> Result<Place, NeedSegment>
-        requires group { HasGroup self.old group }
-        requires kind { 1 ≤ kind }
-        requires size { IsSize size }
-
-        // Refused exactly where it has too little room or there is none, and then nothing changed.
-        ensures full { IsErr result ↔ left self.old group < size }
-        ensures none { IsNone (active_of self.old group) → IsErr result }
-        ensures unchanged { IfErr result (λ _. self.new ≡ self.old) }
-
-        // Where the object stands, and that it is the only change.
-        ensures segment { IfOk result (λ place. active_of self.old group ≡ Some place.segment) }
-        ensures group { IfOk result (λ place. group_of self.old place.segment ≡ Some group) }
-        ensures number { IfOk result (λ place. place.segment < 2 ^ 32) }
-        ensures offset { IfOk result (λ place. place.at ≡ used_at self.old place.segment) }
-        ensures unused { IfOk result (λ place. standing_at self.old place ≡ None) }
-        ensures added { IfOk result (λ place. ChangesAt place (Some (zeros (Some group) kind size)) self.old self.new) }
-
-        // Counted: its bytes are used and live. The segments are as they were.
-        ensures used { IfOk result (λ place. used_counts self.new ≡ plus place.segment size (used_counts self.old)) }
-        ensures live { IfOk result (λ place. live_counts self.new ≡ plus place.segment size (live_counts self.old)) }
-        ensures used_total { IfOk result (λ _. used_total self.new ≡ used_total self.old + size) }
-        ensures live_total { IfOk result (λ _. live_total self.new ≡ live_total self.old + size) }
-        ensures shape { shape self.new ≡ shape self.old }
-    {
-        if self.left(group) < size {
-            return Err(NeedSegment);
-        }
-        let Some(segment) = self.active(group) else {
-            unreachable!()
-        };
-        Ok(self.place_in(group, segment, kind, size))
-    }
-
-    // The same in the active segment, which has room for it.
-    fn place_in(&mut self, group: u32, segment: u32, kind: u8, size: u32) -> Place
-        requires group { HasGroup self.old group }
-        requires active { active_of self.old group ≡ Some segment }
-        requires kind { 1 ≤ kind }
-        requires size { IsSize size }
-        requires room { size ≤ left self.old group }
-
-        // Where the object stands, and that it is the only change.
-        ensures segment { result.segment ≡ segment }
-        ensures offset { result.at ≡ used_at self.old segment }
-        ensures unused { standing_at self.old result ≡ None }
-        ensures added { ChangesAt result (Some (zeros (Some group) kind size)) self.old self.new }
-
-        // Counted: its bytes are used and live. The segments are as they were.
-        ensures used { used_counts self.new ≡ plus segment size (used_counts self.old) }
-        ensures live { live_counts self.new ≡ plus segment size (live_counts self.old) }
-        ensures used_total { used_total self.new ≡ used_total self.old + size }
-        ensures live_total { live_total self.new ≡ live_total self.old + size }
-        ensures shape { shape self.new ≡ shape self.old }
-    {
-        let at = segment_mut(&mut self.slots[segment as usize]).append(kind, size);
-        self.groups[group as usize].gain(size);
-        self.live += u64::from(size);
-        Place { segment, at }
     }
 
     /// The live object at the place is dead from now on. It keeps its place and its content.

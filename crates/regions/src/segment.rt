@@ -1,17 +1,18 @@
 //! A segment that a region holds.
-ghost use Rattle.std.specs.Prelude.{◌≡◌, ◌⊎◌, ℕ, ◌+◌, ◌<◌, ◌≤◌, List, length, take, drop, Some, None, option_map, IsSome, IsNone, IfSome};
+ghost use Rattle.std.specs.Prelude.{◌≡◌, ◌⊎◌, ℕ, ◌+◌, ◌-◌, ◌<◌, ◌≤◌, List, length, take, drop, Some, None, option_map, IsSome, IsNone, IfSome};
 ghost use Rattle.std.specs.Borrow.{Array, Lends, sem, u8 as byte};
 ghost use Rattle.layout.specs.Sizes as sizes;
 ghost use Rattle.object_log.specs.Objects.{IsSize, IsSegment};
+ghost use Rattle.object_log.specs.Contents.{bytes_of, length_of, padded};
 ghost use Rattle.raw_range.specs.Memory.{written};
 ghost use Rattle.regions.specs.Segments.{fresh, emptied};
 ghost use Rattle.regions.specs.Shapes.{slot_of};
 ghost use Rattle.regions.specs.Counts.{live_in};
-ghost use Rattle.regions.specs.Contents.{standing_in, item_if_live, size_of, zeros, dead, rewritten, with_bytes, starts_in, none_lives_in, ChangesIn, IsLiveAt};
+ghost use Rattle.regions.specs.Contents.{standing_in, item_if_live, size_of, holding, dead, rewritten, with_bytes, starts_in, none_lives_in, ChangesIn, IsLiveAt};
 
 use crate::place::LiveObject;
 use layout::DESCRIPTOR;
-use object_log::{append, content_extent, kill, read_descriptor};
+use object_log::{NewContent, append_with, content_extent, kill, read_descriptor};
 use raw_range::Piece;
 use std::marker::Model;
 
@@ -101,7 +102,34 @@ impl Segment {
     }
 
     // Answers where the object stands.
-    pub(crate) fn append(&mut self, kind: u8, size: u32) -> u32
+    pub(crate) fn append(&mut self, kind: u8, size: u32, content: NewContent<'_>) -> u32
+        requires begun { IsSome self.old.group }
+        requires kind { 1 ≤ kind }
+        requires size { IsSize size }
+        requires content { sizes.descriptor + length_of content ≤ size }
+        requires fits { self.old.used + size ≤ sizes.segment }
+
+        // So many bytes more are used and live.
+        ensures at { result ≡ self.old.used }
+        ensures slot { slot_of self.new ≡ slot_of self.old }
+        ensures used { self.new.used ≡ self.old.used + size }
+        ensures live { live_in (Some self.new) ≡ live_in (Some self.old) + size }
+        ensures inside { live_in (Some self.new) ≤ sizes.segment }
+
+        // It stands where nothing stood, and is the only change.
+        ensures unused { standing_in (Some self.old) result ≡ None }
+        ensures added { ChangesIn result (Some (holding self.old.group kind
+            (padded (size - sizes.descriptor) (bytes_of content.entry)))) (Some self.old) (Some self.new) }
+    {
+        let at = self.used;
+        self.used = append_with(self.piece.bytes_mut(), at, kind, size, content);
+        at
+    }
+
+    // The same with the content of a live object of another segment.
+    pub(crate) fn append_copy(&mut self, source: &Segment, from: u32, kind: u8, size: u32) -> u32
+        requires live { IsSome (item_if_live (standing_in (Some source.now) from)) }
+        requires whole { option_map size_of (item_if_live (standing_in (Some source.now) from)) ≡ Some size }
         requires begun { IsSome self.old.group }
         requires kind { 1 ≤ kind }
         requires size { IsSize size }
@@ -116,11 +144,10 @@ impl Segment {
 
         // It stands where nothing stood, and is the only change.
         ensures unused { standing_in (Some self.old) result ≡ None }
-        ensures added { ChangesIn result (Some (zeros self.old.group kind size)) (Some self.old) (Some self.new) }
+        ensures added { IfSome (item_if_live (standing_in (Some source.now) from))
+            (λ i. ChangesIn result (Some (holding self.old.group kind i.content)) (Some self.old) (Some self.new)) }
     {
-        let at = self.used;
-        self.used = append(self.piece.bytes_mut(), at, kind, size);
-        at
+        self.append(kind, size, NewContent::whole(source.content(from)))
     }
 
     // Answers the object's size.

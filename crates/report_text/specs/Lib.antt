@@ -1,2 +1,3 @@
+pub mod AnswerLines
 pub mod Views
 pub mod inside

@@ -59,7 +59,7 @@ fn put_reply<K: Sink>(
     writer.put(word(kind))?;
     match kind {
         ReplyKind::Keys => put_keys(writer, body),
-        _ => writer.put(body),
+        _ => writer.hand_over(body),
     }
 }
 

@@ -53,7 +53,12 @@ pub(crate) fn empty_pieces(
 }
 
 /// The commands from one on, as many as a piece has. The places go on behind them.
-fn next_stretch(places: &mut Places, trace: &Trace, logs: &[ReplyLog], from: usize) -> Stretch
+pub(crate) fn next_stretch(
+    places: &mut Places,
+    trace: &Trace,
+    logs: &[ReplyLog],
+    from: usize,
+) -> Stretch
     requires one_log_each { length logs.now ≡ trace.now.shards }
     requires within { from ≤ length trace.now.commands }
     requires places { ArePlaces (trace_in trace.now) trace.now.shards from places.old }
@@ -101,7 +106,11 @@ pub(crate) fn begin_round(
 }
 
 /// Gives the sink the lines of the answers to the commands of a stretch.
-fn write_stretch<K: Sink>(sink: &mut K, run: &Answered<'_>, stretch: &Stretch) -> Result<(), Failed>
+pub(crate) fn write_stretch<K: Sink>(
+    sink: &mut K,
+    run: &Answered<'_>,
+    stretch: &Stretch,
+) -> Result<(), Failed>
     requires answered { (answers : List (ℕ × Reply)) × Have run.now.trace.now run.now.shards run.now.logs.now answers }
     requires stretch { IsStretch run.now.trace.now stretch.now }
     ensures written { OnOk result ((answers : List (ℕ × Reply)) → Have run.now.trace.now run.now.shards run.now.logs.now answers

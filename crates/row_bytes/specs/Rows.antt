@@ -28,6 +28,10 @@ row_bytes number links row =
     header_bytes number row.number (length row.key.bytes) (length row.value) row.key.table links ++ row.key.bytes ++ row.value
     ++ replicate (size row.key.bytes row.value - (descriptor + header + length row.key.bytes + length row.value)) 0
 
+-- what a header, a key and a value one behind another fill of an object of the row's size, and zero bytes behind them
+abbrev pub content_of : List ℕ → List ℕ → List ℕ → List ℕ
+content_of head key value = (head ++ (key ++ value)) ++ replicate (size key value - descriptor - length (head ++ (key ++ value))) 0
+
 -- what such a content says, field by field
 abbrev pub number_in : List ℕ → ℕ
 number_in content = little_number 4 content

@@ -17,5 +17,5 @@ pub use keys::{Scanned, write_key};
 pub use law::a_row_is_read_as_it_is_written;
 pub use links::{Links, NO_LINK, newer_in, older_in, set_newer, set_older};
 pub use new_row::NewRow;
-pub use reading::{key_in, key_of_row, number_in, put_in, table_in, value_in};
-pub use writing::{row_size, write_row};
+pub use reading::{HEADER, key_in, key_of_row, number_in, put_in, table_in, value_in};
+pub use writing::{row_header, row_size};

@@ -7,7 +7,8 @@ ghost use Rattle.row_bytes.specs.Rows as rows;
 use byteorder::{ByteOrder, LittleEndian};
 use rows::Key;
 
-pub(crate) const HEADER: usize = 32;
+/// The bytes of a row's header.
+pub const HEADER: usize = 32;
 
 // Where the table stands in the content.
 pub(crate) const TABLE: usize = 12;

@@ -1,5 +1,5 @@
 //! A row written into the content of its object.
-ghost use Rattle.std.specs.Prelude.{◌≡◌, ◌+◌, ◌<◌, ◌≤◌, ◌^◌, ◌++◌, drop, length, replicate};
+ghost use Rattle.std.specs.Prelude.{◌≡◌, ◌+◌, ◌<◌, ◌≤◌, length};
 ghost use Rattle.layout.specs.Sizes.{descriptor, greatest_key, greatest_value, tables};
 ghost use Rattle.rows.specs.Key.{in_table};
 ghost use Rattle.rows.specs.Row.{size};
@@ -19,30 +19,32 @@ pub fn row_size(key: &[u8], value: &[u8]) -> u32
     (DESCRIPTOR + HEADER as u32 + key.len() as u32 + value.len() as u32).div_ceil(8) * 8
 }
 
-/// Writes a row with its links into the content of a new object, all of whose bytes are 0.
-pub fn write_row(
-    content: &mut [u8],
+/// The header of a row with its links. With the key and the value behind it, and zero bytes behind those up to the row's size, the
+/// content of a new object is the row's.
+pub fn row_header(
     number: u32,
     put: u32,
     links: Links,
     table: u8,
     key: &[u8],
     value: &[u8],
-)
+) -> [u8; HEADER]
     requires table { table < tables }
     requires some_key { 1 ≤ length key.now }
     requires short_key { length key.now ≤ greatest_key }
     requires short_value { length value.now ≤ greatest_value }
-    requires size { length content.old + descriptor ≡ size key.now value.now }
-    requires zero { content.old ≡ replicate (length content.old) 0 }
-    ensures bytes { content.new ≡ rows.row_bytes number links (record { key = in_table table key.now; value = value.now; number = put }) }
-    ensures holds { rows.HoldsRow content.new number (record { key = in_table table key.now; value = value.now; number = put }) }
-    ensures read { rows.row_in content.new ≡ record { key = in_table table key.now; value = value.now; number = put } }
-    ensures number { rows.number_in content.new ≡ number }
-    ensures links { rows.links_in content.new ≡ links }
+    ensures bytes { rows.content_of result key.now value.now
+        ≡ rows.row_bytes number links (record { key = in_table table key.now; value = value.now; number = put }) }
+    ensures holds { rows.HoldsRow (rows.content_of result key.now value.now) number
+        (record { key = in_table table key.now; value = value.now; number = put }) }
+    ensures read { rows.row_in (rows.content_of result key.now value.now)
+        ≡ record { key = in_table table key.now; value = value.now; number = put } }
+    ensures number { rows.number_in (rows.content_of result key.now value.now) ≡ number }
+    ensures links { rows.links_in (rows.content_of result key.now value.now) ≡ links }
+    ensures size { length (rows.content_of result key.now value.now) + descriptor ≡ size key.now value.now }
+    ensures long { length result ≡ rows.header }
 {
-    let (header, behind) = content.split_at_mut(HEADER);
-    header.copy_from_slice(header_of(
+    header_of(
         number,
         put,
         key.len() as u16,
@@ -50,18 +52,6 @@ pub fn write_row(
         table,
         links,
     )
-    .as_slice());
-    let (key_part, behind) = behind.split_at_mut(key.len());
-    key_part.copy_from_slice(key);
-    write_front(behind, value);
-}
-
-/// Writes bytes over the first ones of a text.
-fn write_front(text: &mut [u8], bytes: &[u8])
-    requires { length bytes.now ≤ length text.old }
-    ensures { text.new ≡ bytes.now ++ drop (length bytes.now) text.old }
-{
-    text[..bytes.len()].copy_from_slice(bytes);
 }
 
 /// The bytes of a header.
@@ -74,6 +64,7 @@ fn header_of(
     links: Links,
 ) -> [u8; HEADER]
     ensures bytes { result ≡ rows.header_bytes number put key_len value_len table links }
+    ensures long { length result ≡ rows.header }
     ensures fit { rows.AreLinks links }
 {
     let mut header = [0; HEADER];

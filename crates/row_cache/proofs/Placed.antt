@@ -1,41 +1,33 @@
 -- A row is written into a new object.
-use Rattle.std.proofs.Common.{◌≡◌, ℕ, ◌+◌, ◌-◌, ◌%◌, ◌≤◌, inl, inr, List, length, replicate, Option, Some, None, refl, sym, ap, subst, ◌∙◌, arith}
+use Rattle.std.proofs.Common.{◌≡◌, ℕ, ◌+◌, ◌-◌, ◌%◌, ◌≤◌, inl, inr, List, length, Option, Some, None, refl, sym, ap, subst, ◌∙◌, arith}
 use Rattle.std.specs.Prelude.{option_map, slice_index}
 use Rattle.std.proofs.lemmas.Bool.Decides.{leb_tells}
-use Rattle.std.proofs.lemmas.List.{get_or-set_same, length-replicate, set_past}
+use Rattle.std.proofs.lemmas.List.{get_or-set_same, set_past}
 use Rattle.std.specs.List.{sum}
-use Rattle.layout.specs.Sizes.{descriptor, segment}
+use Rattle.layout.specs.Sizes.{segment}
 use Rattle.regions.specs.Segments.{RegionState}
 use Rattle.regions.specs.Shapes.{Shape, active_in, active_of, shape}
 use Rattle.regions.specs.Counts.{left, left_of, plus, used_counts}
-use Rattle.regions.specs.Contents.{Item, Standing, ChangesAt, dead, item_if_live, live_at, standing_at, with_bytes, zeros}
+use Rattle.regions.specs.Contents.{Item, Standing, ChangesAt, dead, item_if_live, holding, live_at, standing_at}
 use Rattle.regions.specs.declared.place.Place.{Place}
 use Rattle.row_bytes.specs.Rows.{row_in}
 use Rattle.row_cache.specs.Rows.{AreGrouped, group_for, item_at, Stay}
 use Rattle.row_cache.specs.inside.Tables.{Adds}
 use Rattle.row_cache.proofs.States.{some_none, some_same, place_cases}
 
-pub object_added : (r m s : RegionState) (p : Place) (group : Option ℕ) (kind size : ℕ) (ws : List ℕ) → ChangesAt p (Some (zeros group kind size)) r m → standing_at r p ≡ None
-    → ChangesAt p (option_map (with_bytes ws) (standing_at m p)) m s → Adds p (record { group = group; kind = kind; content = ws }) (live_at r) (live_at s)
-object_added r m s p group kind size ws first unused second = record {
+pub object_added : (r s : RegionState) (p : Place) (group : Option ℕ) (kind : ℕ) (ws : List ℕ) → ChangesAt p (Some (holding group kind ws)) r s → standing_at r p ≡ None
+    → Adds p (record { group = group; kind = kind; content = ws }) (live_at r) (live_at s)
+object_added r s p group kind ws change unused = record {
   absent = ap item_if_live unused;
-  here = ap item_if_live (second.here ∙ ap (option_map (with_bytes ws)) first.here);
-  others = λ q far. ap item_if_live (second.others q far ∙ first.others q far);
+  here = ap item_if_live change.here;
+  others = λ q far. ap item_if_live (change.others q far);
 }
 
-pub object_stays : (r m s : RegionState) (p : Place) (a b : Option Standing) → ChangesAt p a r m → standing_at r p ≡ None → ChangesAt p b m s → Stay r s
-object_stays r m s p a b first unused second = λ q i e. elim (place_cases q p) [
+pub object_stays : (r s : RegionState) (p : Place) (a : Option Standing) → ChangesAt p a r s → standing_at r p ≡ None → Stay r s
+object_stays r s p a change unused = λ q i e. elim (place_cases q p) [
   | inl same ↦ some_none (sym (ap (λ y. item_at r y) same) ∙ e) (ap (option_map (λ (x : Standing). x.item)) unused)
-  | inr far ↦ (i, ap (option_map (λ (x : Standing). x.item)) (second.others q far ∙ first.others q far) ∙ e, inl refl)
+  | inr far ↦ (i, ap (option_map (λ (x : Standing). x.item)) (change.others q far) ∙ e, inl refl)
 ]
-
--- the new content has the length of the zeros that it is written over
-pub zeros_long : (m : RegionState) (p : Place) (group : Option ℕ) (kind size : ℕ) (bytes : List ℕ) → standing_at m p ≡ Some (zeros group kind size)
-    → option_map (λ (s : Standing). s.item.content) (standing_at m p) ≡ Some bytes → length bytes ≡ size - descriptor
-zeros_long m p group kind size bytes here e =
-    let both : Some (replicate (size - descriptor) 0) ≡ Some bytes = sym (ap (option_map (λ (s : Standing). s.item.content)) here) ∙ e in
-    let same : replicate (size - descriptor) 0 ≡ bytes = cc in
-    sym (ap (λ ws. length ws) same) ∙ length-replicate (size - descriptor) 0
 
 -- ---- what is left of the active segment
 
@@ -46,11 +38,11 @@ fewer_left used n size total some room = elim (leb_tells (length used) n) [
   | inr inside ↦ (let e : slice_index (plus n size used) n ≡ slice_index used n + size = get_or-set_same used n (slice_index used n + size) 0 inside.1 in omega (arith, e, room))
 ]
 
-pub left_added : (r m s : RegionState) (g n size : ℕ) → active_of r g ≡ Some n → active_of s g ≡ active_of r g → used_counts m ≡ plus n size (used_counts r) → used_counts s ≡ used_counts m
-    → sum (used_counts m) ≡ sum (used_counts r) + size → 1 ≤ size → size ≤ left r g → left s g + size ≡ left r g
-left_added r m s g n size active same used kept total some room =
+pub left_added : (r s : RegionState) (g n size : ℕ) → active_of r g ≡ Some n → active_of s g ≡ active_of r g → used_counts s ≡ plus n size (used_counts r)
+    → sum (used_counts s) ≡ sum (used_counts r) + size → 1 ≤ size → size ≤ left r g → left s g + size ≡ left r g
+left_added r s g n size active same used total some room =
     let was : left r g ≡ left_of (used_counts r) (Some n) = ap (left_of (used_counts r)) active in
-    let now : left s g ≡ left_of (plus n size (used_counts r)) (Some n) = ap (left_of (used_counts s)) (same ∙ active) ∙ ap (λ u. left_of u (Some n)) (kept ∙ used) in
+    let now : left s g ≡ left_of (plus n size (used_counts r)) (Some n) = ap (left_of (used_counts s)) (same ∙ active) ∙ ap (λ u. left_of u (Some n)) used in
     let e = fewer_left (used_counts r) n size (sym (ap (λ u. sum u) used) ∙ total) some (omega (arith, was, room)) in
     omega (arith, was, now, e)
 

@@ -1,6 +1,7 @@
 //! Tests of `row_cache`: rows are stored, read, replaced and go in the order of their use.
 mod calls;
 mod first_row;
+mod guards;
 mod links;
 mod list;
 mod moved;

@@ -45,6 +45,13 @@ impl Bodies {
         })
     }
 
+    /// How many bytes of bodies may be kept still.
+    pub(crate) fn room(&self) -> u32
+        ensures { result ≡ self.now.room }
+    {
+        self.room
+    }
+
     /// Where the bytes of a body stand from now on. Those that stood there before still do.
     pub(crate) fn keep(&mut self, body: &[u8]) -> u32
         requires { length body.now ≤ self.old.room }

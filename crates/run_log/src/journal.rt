@@ -1,11 +1,11 @@
 //! The journal of a shard.
-ghost use Rattle.std.specs.Prelude.{◌≡◌, ◌+◌, ◌^◌, ◌<◌, ◌≤◌, length, [], ◌∷◌, ◌++◌, IfOk};
+ghost use Rattle.std.specs.Prelude.{◌≡◌, ◌+◌, ◌^◌, ◌<◌, ◌≤◌, length, [], ◌∷◌, ◌++◌, vec_len, IfOk};
 
 use cache_model::Entry;
 use std::alloc::{AllocError, Global};
 use std::marker::Model;
 
-/// The journal of a shard: what it did, in order. It grows within the room that `new` reserves.
+/// The journal of a shard: what it did, in order. It grows within the room that `new` reserves; one that was read has none.
 #[derive(Drop)]
 pub struct Journal {
     entries: Vec<Entry>,
@@ -32,6 +32,15 @@ impl Journal {
             entries: Vec::with_capacity(alloc, room as usize)?,
             room,
         })
+    }
+
+    /// A journal of these entries, with no room for others.
+    pub fn of(entries: Vec<Entry>) -> Journal
+        requires { vec_len entries < 2 ^ 32 }
+        ensures { result ≡ record { entries = entries.items; spare = 0 } }
+    {
+        let room = entries.len() as u32;
+        Journal { entries, room }
     }
 
     /// What was written, in order.

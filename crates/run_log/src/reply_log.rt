@@ -52,6 +52,13 @@ impl ReplyLog {
         })
     }
 
+    /// How many bytes of bodies may be recorded still.
+    pub fn room(&self) -> u32
+        ensures { result ≡ self.now.room }
+    {
+        self.bodies.room()
+    }
+
     /// Records the reply to a part that has none yet.
     pub fn record(&mut self, part: u32, kind: ReplyKind, body: &[u8])
         requires part { slice_get self.old.replies part ≡ Some None }

@@ -13,7 +13,7 @@ use Rattle.layout.specs.Sizes.{fewest_pages, most_pages, segment_pages}
 use Rattle.trace_text.specs.Parts.{most_shards}
 use Rattle.settings.specs.declared.settings.Settings.{Settings as Found}
 use Rattle.settings.specs.declared.settings.mode.Mode.{Mode}
-use Rattle.settings.specs.declared.settings.mode.Mode.TheVariants.{Run, Sim, Gen, Dirty, Index, Values}
+use Rattle.settings.specs.declared.settings.mode.Mode.TheVariants.{Run, Sim, Gen, Audit, Dirty, Index, Values}
 
 pub record Settings : Type 0 where
   pub mode : Mode
@@ -69,9 +69,10 @@ mode_of word =
     if bytes_eq word (codes "run") then Some Run
     else (if bytes_eq word (codes "sim") then Some Sim
     else (if bytes_eq word (codes "gen") then Some Gen
+    else (if bytes_eq word (codes "audit") then Some Audit
     else (if bytes_eq word (codes "dirty") then Some Dirty
     else (if bytes_eq word (codes "index") then Some Index
-    else (if bytes_eq word (codes "values") then Some Values else None)))))
+    else (if bytes_eq word (codes "values") then Some Values else None))))))
 
 -- a number is 1 to 10 decimal digits and nothing else
 abbrev pub is_number : List ℕ → Bool
@@ -109,6 +110,7 @@ abbrev pub are_shards : Mode → ℕ → Bool
 are_shards Run shards = true
 are_shards Sim shards = true
 are_shards Gen shards = true
+are_shards Audit shards = true
 are_shards Dirty shards = shards == 1
 are_shards Index shards = shards == 1
 are_shards Values shards = shards == 1

@@ -43,12 +43,12 @@ pub struct Settings {
 }
 
 impl Settings {
-    /// On how many threads a trace is read and a report is written: as many as shards run on.
+    /// On how many threads a trace is read and a report is written: as many as shards run on, or ran on.
     pub fn threads(self) -> usize
         ensures { 0 < result }
     {
         match self.mode {
-            Mode::Run => (self.shards as usize).max(1),
+            Mode::Run | Mode::Audit => (self.shards as usize).max(1),
             _ => 1,
         }
     }
@@ -95,7 +95,7 @@ fn settings_in(matches: &ArgMatches<'_>) -> Option<Settings>
 ///
 /// | Word | Limits | Where it is absent |
 /// |---|---|---|
-/// | a mode | `run`, `sim`, `gen`, `dirty`, `index` or `values` | refused |
+/// | a mode | `run`, `sim`, `gen`, `audit`, `dirty`, `index` or `values` | refused |
 /// | `--shards N` | 1 to 16; for `dirty`, `index` and `values` 1 | 1 |
 /// | `--pages N` | 1,280 to 65,536, a multiple of 32, and at most 262,144 of all shards | 8,192 |
 /// | `--number N` | 0 to 4,294,967,295 | 0 |

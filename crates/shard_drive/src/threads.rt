@@ -6,7 +6,7 @@ ghost use Rattle.shard_node.specs.Turns.{IsDone, IsSameNode};
 ghost use Rattle.shard_drive.specs.Drives.{AtEach};
 
 use crate::driven::{Driven, have_finished};
-use crate::round::{Round, spins_of};
+use crate::round::{Round, SLEEPS, spins_of};
 use crossbeam_utils::Backoff;
 use shard_node::{Gate, Node, Turn};
 use shard_rings::RingLink;
@@ -42,29 +42,33 @@ pub(crate) fn finish_all<R: Threads + Wait + Sync, N: Driven + Send>(
     ensures lasting { AtEach (λ _ a b. N.lasting b ≡ N.lasting a) nodes.old nodes.new }
 {
     let spins = spins_of(rt, threads);
+    let mut sleeps = SLEEPS;
     'rounds: for _ in rt.forever() {
         if have_finished(nodes) {
             return;
         }
-        drive_round(rt, nodes, threads, spins);
+        sleeps = drive_round(rt, nodes, threads, spins, sleeps);
     }
     unreachable!()
 }
 
-/// Drives each of them once, on at most so many threads, and one after another where no threads can be made.
+/// Drives each of them once, on at most so many threads, and one after another where no threads can be made. Answers in how many
+/// idle turns a thread of the next round sleeps.
 fn drive_round<R: Threads + Wait + Sync, N: Driven + Send>(
     rt: &R,
     nodes: &mut [N],
     threads: usize,
     spins: u32,
-)
+    sleeps: u32,
+) -> u32
     requires threads { 0 < threads }
     requires stands { All N.stands nodes.old }
     ensures stands { All N.stands nodes.new }
     ensures lasting { AtEach (λ _ a b. N.lasting b ≡ N.lasting a) nodes.old nodes.new }
 {
-    let round = Round::new(nodes.len(), spins);
+    let round = Round::new(nodes.len(), spins, sleeps);
     thread::for_each_mut(rt, nodes, threads, &|_, node| drive_one(rt, node, &round));
+    round.next_sleeps()
 }
 
 /// Drives one until it is done, or leaves it where nothing moved for long and it may wait for one that is not driven. After a turn
@@ -79,7 +83,10 @@ pub(crate) fn drive_one<R: Wait, N: Driven>(rt: &R, node: &mut N, round: &Round)
     let mut idle = 0;
     'turns: for _ in rt.forever() {
         match node.step() {
-            Turn::Done => return,
+            Turn::Done => {
+                round.end();
+                return;
+            }
             Turn::Idle => {
                 if round.may_leave(idle) {
                     round.leave();

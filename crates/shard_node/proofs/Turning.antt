@@ -1,6 +1,7 @@
 -- The steps of a turn, and what it answers.
 pub mod Steps
 pub mod Joins
+pub mod Calms
 pub mod AsksGate
 pub mod ThroughGate
 pub mod TellsStrays

@@ -6,6 +6,7 @@ pub mod Serves
 pub mod Did
 pub mod Bare
 pub mod Parts
+pub mod Calm
 pub mod Nodes
 pub mod Moves
 pub mod Seen

@@ -37,6 +37,8 @@ pub struct Node<'f, L: Drop, G: Drop> {
     shard: Shard<'f, L, G>,
     // Empty until the links are handed back.
     links: Vec<L>,
+    // Where it is true, no block and no reply waits.
+    calm: bool,
     // Nodes stand side by side, and each is written by a thread of its own: so none shares a line of the cache with the next.
     _apart: [u64; APART],
 }
@@ -55,7 +57,7 @@ impl<'f, L: Drop, G: Drop> Model for Node<'f, L, G> {
 
     ghost view = { λ n. node_state n.shard };
 
-    ghost invariant = { λ n. IsConsistentNode n.shard n.links };
+    ghost invariant = { λ n. IsConsistentNode n.shard n.links n.calm };
 }
 
 /// What a node leaves that has finished, beside its journal and its log.
@@ -118,6 +120,7 @@ impl<'f, L: Link<'f> + Drop, G: Gate + Drop> Node<'f, L, G> {
             Ok(shard) => Ok(Node {
                 shard,
                 links: room,
+                calm: false,
                 _apart: [0; APART],
             }),
             Err(refusal) => Err(refusal),
@@ -137,7 +140,7 @@ impl<'f, L: Link<'f> + Drop, G: Gate + Drop> Node<'f, L, G> {
             → self.new ≡ record self.old { turns = self.new.turns } }
         ensures answer { InStanding L.traffic self.old → IsAnswer L.traffic G.holds result self.old self.new }
     {
-        self.shard.turn()
+        self.shard.turn(&mut self.calm)
     }
 
     /// Whether it is done, so that a turn would make no step.
@@ -152,6 +155,13 @@ impl<'f, L: Link<'f> + Drop, G: Gate + Drop> Node<'f, L, G> {
         ensures { result ≡ self.now.turns }
     {
         self.shard.turns
+    }
+
+    /// How many blocks it lent, up to the greatest u64.
+    pub fn lent(&self) -> u64
+        ensures { result ≡ self.now.store.lends }
+    {
+        self.shard.store.lent()
     }
 
     /// What holds of a node at each time.
@@ -198,6 +208,7 @@ impl<'f, L: Link<'f> + Drop, G: Gate + Drop> Node<'f, L, G> {
         let Node {
             shard,
             links,
+            calm: _,
             _apart: _,
         } = self;
         let Shard {
@@ -223,6 +234,7 @@ impl<'f, L: Link<'f> + Drop, G: Gate + Drop> Node<'f, L, G> {
         let Node {
             shard,
             links,
+            calm: _,
             _apart: _,
         } = self;
         let Shard { store, peers, .. } = shard;

@@ -1,6 +1,7 @@
 //! A shard at work: what a node holds, and the steps of its turn.
 ghost use Rattle.std.specs.Prelude.{◌≡◌, ◌+◌, ◌<◌, ◌↔◌, length, true, false, IsTrue};
 ghost use Rattle.shard_rings.specs.declared.link.Lane.{Lane as AnyLane};
+ghost use Rattle.shard_node.specs.inside.Calm.{IsCalm};
 ghost use Rattle.shard_node.specs.inside.Moves.{packets_of, BeginsNone, ByeWaits, Frees, Goes, HeldUp, NonePassed, RacesAll, ReceivesNone, ReplyWaits};
 ghost use Rattle.shard_node.specs.inside.Shards.{node_state, IsConsistent};
 ghost use Rattle.shard_node.specs.inside.Steps.{IsStep};
@@ -57,22 +58,28 @@ impl<'f, L: Link<'f> + Drop, G: Gate + Drop> Shard<'f, L, G> {
         self.store.take_back();
     }
 
-    /// Tries each block that waits to be released once. True where one was.
-    pub(crate) fn release_held(&mut self) -> bool
+    /// Tries each block that waits to be released once, where any may wait. True where one was.
+    pub(crate) fn release_held(&mut self, calm: bool) -> bool
         requires consistent { IsConsistent self.old }
+        requires calm { IsCalm calm (node_state self.old) }
         ensures step { IsStep L.traffic L.end self.old self.new }
         ensures received { (lane : AnyLane) → ReceivesNone L.traffic lane (node_state self.old) (node_state self.new) }
         ensures goes { Goes L.traffic (node_state self.old) (node_state self.new) }
         ensures own { BeginsNone (node_state self.old) (node_state self.new) }
         ensures released { result ≡ true → Frees L.traffic G.holds (node_state self.old) (node_state self.new) }
         ensures raced { result ≡ false → RacesAll L.traffic G.holds (node_state self.old) (node_state self.new) }
+        ensures calm { IsCalm calm (node_state self.new) }
     {
+        if calm {
+            return false;
+        }
         release_all(self.peers.as_mut_slice(), &mut self.tally)
     }
 
-    /// Sends each reply that waits. True where one was sent.
-    pub(crate) fn send_replies(&mut self) -> bool
+    /// Sends each reply that waits, where any may wait. True where one was sent.
+    pub(crate) fn send_replies(&mut self, calm: bool) -> bool
         requires consistent { IsConsistent self.old }
+        requires calm { IsCalm calm (node_state self.old) }
         ensures step { IsStep L.traffic L.end self.old self.new }
         ensures received { (lane : AnyLane) → ReceivesNone L.traffic lane (node_state self.old) (node_state self.new) }
         ensures goes { Goes L.traffic (node_state self.old) (node_state self.new) }
@@ -82,6 +89,9 @@ impl<'f, L: Link<'f> + Drop, G: Gate + Drop> Shard<'f, L, G> {
             → HeldUp L.traffic (λ k. ReplyWaits
             L.traffic) (node_state self.old) (node_state self.new) }
     {
+        if calm {
+            return false;
+        }
         send_replies(self.peers.as_mut_slice())
     }
 

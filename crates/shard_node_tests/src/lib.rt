@@ -7,6 +7,8 @@ mod alone;
 #[cfg(test)]
 mod examples;
 #[cfg(test)]
+mod full_rings;
+#[cfg(test)]
 mod judged;
 #[cfg(test)]
 mod replies;

@@ -20,11 +20,11 @@ const NO_KIND: [u8; 16] = [99, 0, 0, 0, 1, 0, 0, 0, 0, 0, 0, 0, 0, 0, 0, 0];
 
 const OTHER: [u8; 16] = [17, 0, 0, 0, 3, 0, 0, 0, 0, 0, 0, 0, 0, 0, 0, 0];
 
-/// Sends a block that begins so to the node, which makes a turn with this answer. Whether that is so, and the block came home.
-fn turns<'f>(node: &mut Trial<'f>, lender: &mut Lender<'f>, front: &[u8], answer: Turn) -> bool
+/// Sends a block of these bytes to the node, which makes a turn with this answer. Whether that is so, and the block came home.
+fn turns<'f>(node: &mut Trial<'f>, lender: &mut Lender<'f>, bytes: &[u8], answer: Turn) -> bool
     ensures { node.new ≡ node.old }
 {
-    let Some(block) = lender.block(front) else {
+    let Some(block) = lender.block(bytes) else {
         return false;
     };
     node.offer(Lane::Replies, Packet::Block(block)) && node.turn() == answer && lender.takes_one()

@@ -15,36 +15,84 @@ use std::process::Abort;
 use std::test::Fail;
 use trace_text::Trace;
 
-// `put c 1` as command 1, a request of a kind that there is not, and requests of another table and of one that there is not.
-const OTHER_KEY: [u8; 18] = [1, 0, 1, 0, 1, 0, 0, 0, 1, 0, 0, 0, 0, 0, 0, 0, b'c', b'1'];
+/// What comes to the node, and what it does with it.
+#[derive(Clone, Copy)]
+enum Step<'a> {
+    /// A block of these bytes is set aside, where the packet of the first of these numbers was expected: the second is its own.
+    SetsAside(&'a [u8], u32, u32),
+    /// Bye is set aside, where the packet of this number was expected.
+    SetsByeAside(u32),
+    /// The request is done.
+    Does,
+    /// The put was answered.
+    Answers,
+    /// Bye comes, and the node is done.
+    Ends,
+}
 
-const NO_KIND: [u8; 18] = [9, 0, 1, 0, 1, 0, 0, 0, 1, 0, 0, 0, 0, 0, 0, 0, b'b', b'1'];
+/// Packets of which the node expects none: another number, Bye, another key, a kind that there is not, another table, and one that
+/// there is not. Then comes what it expects, with the request once more behind it.
+const ONE_BY_ONE: &[Step] = &[
+    Step::SetsAside(b"\x01\0\x01\0\x03\0\0\0\x01\0\0\0\0\0\0\0b1", 1, 3),
+    Step::SetsByeAside(1),
+    Step::SetsAside(b"\x01\0\x01\0\x01\0\0\0\x01\0\0\0\0\0\0\0c1", 1, 1),
+    Step::SetsAside(b"\x09\0\x01\0\x01\0\0\0\x01\0\0\0\0\0\0\0b1", 1, 1),
+    Step::SetsAside(b"\x01\x03\x01\0\x01\0\0\0\x01\0\0\0\0\0\0\0b1", 1, 1),
+    Step::SetsAside(b"\x01\x08\x01\0\x01\0\0\0\x01\0\0\0\0\0\0\0b1", 1, 1),
+    Step::Does,
+    Step::Answers,
+    Step::SetsAside(b"\x01\0\x01\0\x01\0\0\0\x01\0\0\0\0\0\0\0b1", 0, 1),
+    Step::Ends,
+];
 
-const OTHER_TABLE: [u8; 18] = [1, 3, 1, 0, 1, 0, 0, 0, 1, 0, 0, 0, 0, 0, 0, 0, b'b', b'1'];
+/// One hostile packet, and then what the node expects.
+const BYE: &[Step] = &[Step::SetsByeAside(1), Step::Does, Step::Answers, Step::Ends];
 
-const NO_TABLE: [u8; 18] = [1, 8, 1, 0, 1, 0, 0, 0, 1, 0, 0, 0, 0, 0, 0, 0, b'b', b'1'];
+const FIVE_BYTES: &[Step] = &[
+    Step::SetsAside(b"\x01\0\x01\0\x01", 1, 0),
+    Step::Does,
+    Step::Answers,
+    Step::Ends,
+];
+
+const OTHER_VALUE: &[Step] = &[
+    Step::SetsAside(b"\x01\0\x01\0\x01\0\0\0\x01\0\0\0\0\0\0\0b2", 1, 1),
+    Step::Does,
+    Step::Answers,
+    Step::Ends,
+];
+
+/// The request comes again before its reply was taken.
+const TWICE: &[Step] = &[
+    Step::Does,
+    Step::SetsAside(b"\x01\0\x01\0\x01\0\0\0\x01\0\0\0\0\0\0\0b1", 0, 1),
+    Step::Answers,
+    Step::Ends,
+];
 
 // The reply to the put.
 const STORED: [u8; 16] = [17, 0, 0, 0, 1, 0, 0, 0, 0, 0, 0, 0, 0, 0, 0, 0];
 
-/// Sends the request of this number to the node, which makes a turn with this answer. Whether that is so, and the block came home.
-fn turns<'f>(node: &mut Trial<'f>, lender: &mut Lender<'f>, number: u32, answer: Turn) -> bool
+/// Whether a turn on a block of these bytes sets it aside, and the block came home.
+fn sets_aside<'f>(node: &mut Trial<'f>, lender: &mut Lender<'f>, bytes: &[u8], answer: Turn) -> bool
     ensures { node.new ≡ node.old }
 {
-    let Some(block) = lender.request(number) else {
+    let Some(block) = lender.block(bytes) else {
         return false;
     };
     node.offer(Lane::Requests, Packet::Block(block)) && node.turn() == answer && lender.takes_one()
 }
 
-/// The same, of a block that begins so.
-fn turns_on<'f>(node: &mut Trial<'f>, lender: &mut Lender<'f>, front: &[u8], answer: Turn) -> bool
+/// Whether a turn on the request moves, and the block came home.
+fn moves<'f>(node: &mut Trial<'f>, lender: &mut Lender<'f>) -> bool
     ensures { node.new ≡ node.old }
 {
-    let Some(block) = lender.block(front) else {
+    let Some(block) = lender.request(1) else {
         return false;
     };
-    node.offer(Lane::Requests, Packet::Block(block)) && node.turn() == answer && lender.takes_one()
+    node.offer(Lane::Requests, Packet::Block(block))
+        && node.turn() == Turn::Moved
+        && lender.takes_one()
 }
 
 /// Whether the node answers Bye so.
@@ -75,20 +123,31 @@ fn is_answered<'f>(node: &mut Trial<'f>) -> bool
     }
 }
 
-/// Turns the node on packets that it does not expect, before and behind the right request. True where it answers each as it should.
-fn play<'f>(node: &mut Trial<'f>, lender: &mut Lender<'f>) -> bool
+/// Whether a step goes as it should.
+fn goes<'f>(node: &mut Trial<'f>, lender: &mut Lender<'f>, step: Step<'_>) -> bool
     ensures { node.new ≡ node.old }
 {
-    turns(node, lender, 3, stray(1, 3))
-        && turns_on_bye(node, stray(1, 0))
-        && turns_on(node, lender, &OTHER_KEY, stray(1, 1))
-        && turns_on(node, lender, &NO_KIND, stray(1, 1))
-        && turns_on(node, lender, &OTHER_TABLE, stray(1, 1))
-        && turns_on(node, lender, &NO_TABLE, stray(1, 1))
-        && turns(node, lender, 1, Turn::Moved)
-        && is_answered(node)
-        && turns(node, lender, 1, stray(0, 1))
-        && turns_on_bye(node, Turn::Done)
+    match step {
+        Step::SetsAside(bytes, expected, found) => {
+            sets_aside(node, lender, bytes, stray(expected, found))
+        }
+        Step::SetsByeAside(expected) => turns_on_bye(node, stray(expected, 0)),
+        Step::Does => moves(node, lender),
+        Step::Answers => is_answered(node),
+        Step::Ends => turns_on_bye(node, Turn::Done),
+    }
+}
+
+/// The same for each of these steps.
+fn play<'f>(node: &mut Trial<'f>, lender: &mut Lender<'f>, steps: &[Step<'_>]) -> bool
+    ensures { node.new ≡ node.old }
+{
+    for step in steps {
+        if !goes(node, lender, *step) {
+            return false;
+        }
+    }
+    true
 }
 
 /// The record of a run whose first shard has finished, which asked the other for the put.
@@ -141,13 +200,14 @@ fn did_once(ran: &Ran) -> bool {
     }
 }
 
-/// Opens both shards, and plays.
+/// Opens both shards, and plays these steps.
 fn open_and_play<'f>(
     alloc: Global,
     trace: &'f Trace,
     homes: (&'f Foreign, &'f Foreign),
     seats: (OwnerSeat, OwnerSeat),
     ran: &mut Ran,
+    steps: &[Step<'_>],
 ) -> Result<bool, Fail>
     requires two { trace.now.shards ≡ 2 }
     requires owners { (homes.0.now.owner ≡ 0) × (homes.1.now.owner ≡ 1) }
@@ -163,27 +223,34 @@ fn open_and_play<'f>(
             return Err(error);
         }
     };
-    let is_right = play(&mut node, &mut lender);
+    let is_right = play(&mut node, &mut lender, steps);
     drop(lender);
     let is_finished = node.finish(ran);
     Ok(is_right && is_finished)
 }
 
+/// Whether a new node does these steps, is done then, and did the put once and nothing else.
+fn plays_anew(
+    rt: &impl Abort,
+    alloc: Global,
+    trace: &Trace,
+    steps: &[Step<'_>],
+) -> Result<bool, Fail>
+    requires two { trace.now.shards ≡ 2 }
+{
+    let (lending, lent) = Foreign::new(alloc, 0)?;
+    let (home, seat) = Foreign::new(alloc, 1)?;
+    let mut ran = ran_first(rt, alloc, trace)?;
+    let (homes, seats) = ((&lending, &home), (lent, seat));
+    let is_right = open_and_play(alloc, trace, homes, seats, &mut ran, steps)?;
+    Ok(is_right && did_once(&ran))
+}
+
 #[test]
 fn requests_that_were_not_expected_are_set_aside(rt: HostRuntime) -> Result<(), Fail> {
     let trace = parsed(&rt, rt.alloc(), b"put b 1\n", 2)?;
-    let (lending, lent) = Foreign::new(rt.alloc(), 0)?;
-    let (home, seat) = Foreign::new(rt.alloc(), 1)?;
-    let mut ran = ran_first(&rt, rt.alloc(), &trace)?;
-    assert!(rt;
-        open_and_play(
-            rt.alloc(),
-            &trace,
-            (&lending, &home),
-            (lent, seat),
-            &mut ran
-        )?
-    );
-    assert!(rt; did_once(&ran));
+    for steps in [ONE_BY_ONE, BYE, FIVE_BYTES, OTHER_VALUE, TWICE] {
+        assert!(rt; plays_anew(&rt, rt.alloc(), &trace, steps)?);
+    }
     Ok(())
 }

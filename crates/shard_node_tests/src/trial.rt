@@ -9,6 +9,7 @@ ghost use Rattle.shard_node.specs.Links.{IsUnused};
 ghost use Rattle.run_log.specs.Runs.{IsOfRun};
 
 use foreign_list::{Foreign, ForeignBlock, OwnerSeat};
+use layout::GREATEST_BLOCK;
 use rows::Key;
 use run_log::Journal;
 use shard_node::{Node, OpenGate, Ran, Turn};
@@ -110,6 +111,11 @@ impl<'f> Trial<'f> {
         self.node.turn()
     }
 
+    /// How many blocks the node lent.
+    pub(super) fn lent(&self) -> u64 {
+        self.node.lent()
+    }
+
     /// Sends a packet to the node. False where the lane is full.
     pub(super) fn offer(&mut self, lane: Lane, packet: Packet<'f>) -> bool
         ensures { self.new ≡ self.old }
@@ -187,11 +193,22 @@ impl<'f> Lender<'f> {
         Some(block)
     }
 
-    /// A block that begins with these bytes, where they are not too many.
-    pub(super) fn block(&mut self, front: &[u8]) -> Option<ForeignBlock<'f>> {
-        let mut block = self.request(1)?;
-        if let Some(bytes) = block.bytes_mut().get_mut(..front.len()) {
-            bytes.copy_from_slice(front);
+    /// A block of these bytes. None where there are none or too many, and where no ticket is idle.
+    pub(super) fn block(&mut self, bytes: &[u8]) -> Option<ForeignBlock<'f>> {
+        let Ok(size) = u32::try_from(bytes.len()) else {
+            return None;
+        };
+        if size == 0 || size > GREATEST_BLOCK {
+            return None;
+        }
+        if self.store.rows() > self.journal.spare() {
+            return None;
+        }
+        let mut block = self
+            .store
+            .try_lend(size, Share::Request, &mut self.journal)?;
+        if let Some(into) = block.bytes_mut().get_mut(..bytes.len()) {
+            into.copy_from_slice(bytes);
         }
         Some(block)
     }

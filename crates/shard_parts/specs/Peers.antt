@@ -4,7 +4,7 @@ use Rattle.foreign_list.specs.Blocks.{Block}
 use Rattle.shard_rings.specs.Lanes.{Lanes, LinkEnd, Traffic}
 use Rattle.shard_rings.specs.declared.link.Lane.TheVariants.{Replies}
 use Rattle.shard_parts.specs.declared.peer.Peer.{Peer}
-use Rattle.part_lemmas.specs.Exchange.{Keeping, PeerState, packets}
+use Rattle.part_lemmas.specs.Exchange.{IsEmpty, Keeping, PeerState, packets}
 use Rattle.part_lemmas.specs.Releases.{TriesBoth, held_count}
 use Rattle.part_lemmas.specs.Sends.{SendsHeld, TriesBye}
 
@@ -28,6 +28,15 @@ module _ {L : Type 0} where
 
   abbrev pub peer_state : Peer L → PeerState L
   peer_state peer = record { shard = peer.shard; link = peer.link; held = held peer; reply = peer.reply; keeps = keeps peer }
+
+  -- no block of the peer's waits to be released, and no reply to be sent to it
+  pub record WaitsNone (peer : PeerState L) : Type 0 where
+    pub released_request : IsEmpty peer.held.requests
+    pub released_reply : IsEmpty peer.held.replies
+    pub replied : IsEmpty peer.reply
+
+  abbrev pub HasNoneWaiting : Peer L → Type 0
+  HasNoneWaiting peer = WaitsNone (peer_state peer)
 
   -- the blocks of all peers that wait to be released
   abbrev pub held_by_all : List (Peer L) → ℕ

@@ -18,6 +18,7 @@ mod rest;
 mod rising;
 mod sending;
 mod stray_packet;
+mod waiting;
 
 pub use ending::all_ended;
 pub use expected::expected_reply;
@@ -29,3 +30,4 @@ pub use releasing::release;
 pub use rest::Rest;
 pub use sending::send;
 pub use stray_packet::{StrayPacket, Tried};
+pub use waiting::none_waits;

@@ -4,6 +4,7 @@ mod drawn_store;
 mod lent;
 mod list;
 mod passed;
+mod pressure;
 mod steps;
 mod tables;
 mod threads;

@@ -9,14 +9,16 @@ use Rattle.value_script.specs.Reading as script_refusal
 use Rattle.run_log.specs.Runs.{RanState}
 use Rattle.settings.specs.declared.settings.mode.Mode.{Mode}
 use Rattle.settings.specs.declared.settings.mode.Mode.TheVariants.{Run, Sim, Gen, Dirty, Index, Values}
+use Rattle.settings.specs.declared.settings.mode.Mode.TheVariants as modes
 use Rattle.shardcache.specs.declared.status.Status.{Status}
 use Rattle.shardcache.specs.declared.status.Status.TheVariants as status
 use Rattle.settings.specs.Settings.{Settings, settings}
-use Rattle.shardcache.specs.Meanings.{Does, IsReadOut, IsScriptReadOut, ReadsAs, Refuses, is_accepted, meaning_of, script_read, trace_read}
+use Rattle.shardcache.specs.Audits.{Audit, NotAudited, Unframed, Unread, audit_for}
+use Rattle.shardcache.specs.Meanings.{Does, IsAuditReadOut, IsReadOut, IsScriptReadOut, ReadsAs, Refuses, audit_read, is_accepted, meaning_of, script_read, trace_read}
 use Rattle.shardcache.specs.Table.{FollowsTable}
 use Rattle.shardcache.specs.TraceFor.{NotRun, TooLong, AtLine, trace_for}
 use Rattle.shardcache.proofs.Fitting.{too_long_for}
-use Rattle.shardcache.proofs.TableRows.{is_too_long_script}
+use Rattle.shardcache.proofs.TableRows.{is_too_long_audit, is_too_long_script}
 
 all_taken : (bytes taken : List ℕ) (left : Option (List ℕ)) → Consumes (Some bytes) left taken → IsAtEnd left → taken ≡ bytes
 all_taken bytes taken None took ended = absurd took
@@ -45,6 +47,16 @@ script_same found meaning bytes taken left took reads = go meaning reads.is read
     go (Err script_refusal.TooLong) is out = let few = few_taken bytes taken left took in is_too_long_script bytes (omega (arith, few, out))
     go (Err (script_refusal.AtLine number cause)) is out = ap script_of (sym (all_taken bytes taken left took out)) ∙ is
 
+audit_same : (found : Settings) (meaning : Result Audit NotAudited) (bytes taken : List ℕ) (left : Option (List ℕ)) → Consumes (Some bytes) left taken → ReadsAs audit_read found taken left meaning
+    → audit_for found bytes ≡ meaning
+audit_same found meaning bytes taken left took reads = go meaning reads.is reads.out
+  where
+    go : (m : Result Audit NotAudited) → audit_for found taken ≡ m → IsAuditReadOut m taken left → audit_for found bytes ≡ m
+    go (Ok audit) is out = ap (audit_for found) (sym (all_taken bytes taken left took out)) ∙ is
+    go (Err Unframed) is out = ap (audit_for found) (sym (all_taken bytes taken left took out)) ∙ is
+    go (Err (Unread TooLong)) is out = let few = few_taken bytes taken left took in is_too_long_audit found bytes (omega (arith, few, out))
+    go (Err (Unread (AtLine number fault))) is out = ap (audit_for found) (sym (all_taken bytes taken left took out)) ∙ is
+
 of_source : (bytes taken : List ℕ) (before left : Option (List ℕ)) → before ≡ Some bytes → Consumes before left taken → Consumes (Some bytes) left taken
 of_source bytes taken before left is took = subst (λ b. Consumes b left taken) is took
 
@@ -55,6 +67,7 @@ reads_same : (mode : Mode) (found : Settings) (bytes taken : List ℕ) (before l
 reads_same Run found bytes taken before left read told took reads = read_same found read bytes taken left (of_source bytes taken before left (told refl) took) reads
 reads_same Sim found bytes taken before left read told took reads = read_same found read bytes taken left (of_source bytes taken before left (told refl) took) reads
 reads_same Gen found bytes taken before left read told took reads = reads.is
+reads_same modes.Audit found bytes taken before left read told took reads = audit_same found read bytes taken left (of_source bytes taken before left (told refl) took) reads
 reads_same Dirty found bytes taken before left read told took reads = read_same found read bytes taken left (of_source bytes taken before left (told refl) took) reads
 reads_same Index found bytes taken before left read told took reads = read_same found read bytes taken left (of_source bytes taken before left (told refl) took) reads
 reads_same Values found bytes taken before left read told took reads = script_same found read bytes taken left (of_source bytes taken before left (told refl) took) reads

@@ -1,13 +1,13 @@
 -- Which traces that were read are run.
-use Rattle.std.proofs.Common.{◌≡◌, ℕ, ◌<◌, ◌≤◌, ◌==◌, Bool, true, false, cond, ltb, List, length, Option, Some, None, Ok, Err, arith, refl, ap, ◌∙◌}
+use Rattle.std.proofs.Common.{◌≡◌, ℕ, ◌+◌, ◌/◌, ◌<◌, ◌≤◌, ◌==◌, Bool, true, false, cond, ltb, List, length, Option, Some, None, Ok, Err, arith, refl, ap, ◌∙◌}
 use Rattle.std.specs.Prelude.{nat_lt}
 use Rattle.std.proofs.lemmas.Bool.{cond-true, lt-ltb}
 use Rattle.std.proofs.lemmas.Bool.Decides.{nat_tests}
-use Rattle.layout.specs.Sizes.{fewest_table_pages, most_trace_bytes, tables}
+use Rattle.layout.specs.Sizes.{fewest_pages, fewest_table_pages, most_trace_bytes, segment_pages, tables, tickets, ArePages}
 use Rattle.trace_text.specs.declared.refusal.Cause.{Cause}
 use Rattle.trace_text.specs.Reading.{trace_of}
 use Rattle.trace_text.specs.Reading as trace_refusal
-use Rattle.trace_text.specs.Trace.{Trace}
+use Rattle.trace_text.specs.Trace.{Trace, regions}
 use Rattle.settings.specs.declared.settings.mode.Mode.{Mode}
 use Rattle.settings.specs.Settings.{Settings}
 use Rattle.shard_node.specs.Nodes.{HasTablePages}
@@ -44,3 +44,12 @@ has-pages true true pages none all = by-test (nat_lt pages fewest_table_pages) r
 
 pub fits_pages : (mode : Mode) (pages : ℕ) (trace : Trace) → misfit_of mode pages trace ≡ None → HasTablePages trace pages
 fits_pages mode pages trace none = λ all. has-pages (trace.version == 2) (knows_tables mode) pages none all
+
+-- the pages are enough for a segment of each ticket, of each region, and one more
+covers_regions : (named : Bool) (pages : ℕ) → fewest_pages ≤ pages → (cond named tables 1 ≡ tables → fewest_table_pages ≤ pages)
+    → tickets + 1 + cond named tables 1 ≤ pages / segment_pages
+covers_regions true pages few all = let more = all refl in let least : 48 ≤ pages / segment_pages = omega (arith, more) in omega (arith, least)
+covers_regions false pages few all = let least : 40 ≤ pages / segment_pages = omega (arith, few) in omega (arith, least)
+
+pub covers : (trace : Trace) (pages : ℕ) → ArePages pages → HasTablePages trace pages → tickets + 1 + regions trace ≤ pages / segment_pages
+covers trace pages are all = covers_regions (trace.version == 2) pages are.0 all

@@ -1,53 +1,30 @@
 -- The report of what the shards did.
-use Rattle.std.proofs.Common.{◌≡◌, ℕ, ◌+◌, ◌<◌, List, [], ◌∷◌, length, map, get_or, Option, Some, None, arith, refl, ◌∙◌}
-use Rattle.std.specs.List.{All, AllByRecursion as ByRecursion, enumerate_from, filter_map, slice_get}
+use Rattle.std.proofs.Common.{◌≡◌, ℕ, ◌+◌, ◌<◌, List, length, map, Option, Some, arith, refl, ◌∙◌}
+use Rattle.std.specs.List.{All, enumerate_from, slice_get}
 use Rattle.std.specs.Option.{option_map}
 use Rattle.std.proofs.lemmas.List.{length-map}
-use Rattle.std.proofs.lemmas.List.Elements.{All-from_recursion}
-use Rattle.std.specs.Prelude.{Bool}
-use Rattle.rows.specs.Operation.{Operation}
 use Rattle.trace_text.specs.Trace.{Trace}
 use Rattle.trace_text.specs.Parsed.{IsWellFormed}
 use Rattle.cache_model.specs.declared.entry.Entry.{Entry}
 use Rattle.rows.specs.declared.reply_kind.ReplyKind.{ReplyKind}
-use Rattle.cache_model.specs.Answer.{answer}
 use Rattle.rows.specs.Apply.{Reply}
-use Rattle.cache_model.specs.Holds.{PutBytesHold, ReplyBytesHold}
 use Rattle.cache_model.specs.Logged.{AreLogged}
 use Rattle.cache_model.specs.Summary.{IsSummaryOf, summary}
 use Rattle.cache_model.specs.Report.{IsReportOf, Occupancy, answers, journal_text, occupancy, report, report_of, text_lines}
-use Rattle.cache_model.specs.Unbroken.{IsUnbroken, is_unbroken}
+use Rattle.cache_model.specs.Unbroken.{IsUnbroken}
+use Rattle.cache_lemmas.proofs.UnbrokenAnswers.{answers-unbroken}
 use Rattle.run_log.specs.Runs.{IsFinished, RanState, journals_in, replies_in}
 use Rattle.settings.specs.declared.settings.Settings.{Settings as Found}
 use Rattle.settings.specs.Settings.{view}
 use Rattle.shardcache.specs.Meanings.{Shown}
-use Rattle.shardcache.proofs.Unbroken.{key-unbroken, value-unbroken}
 
 -- the laws of answers and of reports, as their functions promise them
 pub record ReportLaws : Type 0 where
-  pub holds : (on_bytes on_value : List ℕ → Bool) (trace : Trace) (n pages : ℕ) (journals : List (List Entry)) (operation : Operation) (reply : Reply)
-      → PutBytesHold on_bytes on_value trace → answer trace n pages journals operation ≡ Some reply → ReplyBytesHold on_bytes on_value reply
   pub lines : (answers : List (ℕ × Reply)) (journals : List (List Entry)) (occupancies : List Occupancy) (s : ℕ) → All (λ answer. IsUnbroken answer.1) answers
       → s < length journals
       → slice_get (text_lines (report_of answers journals occupancies)) (length answers + s) ≡ option_map (λ journal. journal_text (s, journal)) (slice_get journals s)
   pub count : (trace : Trace) (n : ℕ) (logs : List (List (Option (ReplyKind × List ℕ)))) (answers : List (ℕ × Reply))
       → AreLogged trace n logs answers → length answers ≡ length trace.operations
-
--- the answers that there are stay on their lines
-all-unbroken : (answer_of : Operation → Option Reply) (operations : List Operation) → ((operation : Operation) (reply : Reply) → answer_of operation ≡ Some reply → IsUnbroken reply)
-    → ByRecursion (λ (given : ℕ × Reply). IsUnbroken given.1) (filter_map (λ operation. option_map (λ reply. (operation.number, reply)) (answer_of operation)) operations)
-all-unbroken answer_of [] unbroken = tt
-all-unbroken answer_of (operation ∷ operations) unbroken = go (all-unbroken answer_of operations unbroken) (answer_of operation) refl
-  where
-    go : ByRecursion (λ (given : ℕ × Reply). IsUnbroken given.1) (filter_map (λ operation. option_map (λ reply. (operation.number, reply)) (answer_of operation)) operations)
-        → (o : Option Reply) → answer_of operation ≡ o
-        → ByRecursion (λ (given : ℕ × Reply). IsUnbroken given.1) (filter_map (λ operation. option_map (λ reply. (operation.number, reply)) (answer_of operation)) (operation ∷ operations))
-    go rest None is = rw is rest
-    go rest (Some reply) is = rw is (unbroken operation reply is, rest)
-
-puts-hold : (trace : Trace) → All IsWellFormed trace.operations → PutBytesHold is_unbroken is_unbroken trace
-puts-hold trace formed = λ i d within is.
-    (key-unbroken (get_or trace.operations i d).key.bytes (formed i d within).key, value-unbroken (get_or trace.operations i d).value (formed i d within).value)
 
 -- the report of the journals is legal
 pub reported : ReportLaws → (trace : Trace) (n pages : ℕ) (ran : RanState) → All IsWellFormed trace.operations → IsFinished trace n pages ran
@@ -56,9 +33,7 @@ reported laws trace n pages ran formed run =
     let journals = journals_in ran.journals in
     let list = answers trace n pages journals in
     let occupancies = map (occupancy trace n pages) (enumerate_from 0 journals) in
-    let unbroken : All (λ (given : ℕ × Reply). IsUnbroken given.1) list =
-    All-from_recursion (λ (given : ℕ × Reply). IsUnbroken given.1) list
-    (all-unbroken (answer trace n pages journals) trace.operations (λ operation reply is. laws.holds is_unbroken is_unbroken trace n pages journals operation reply (puts-hold trace formed) is)) in
+    let unbroken : All (λ (given : ℕ × Reply). IsUnbroken given.1) list = answers-unbroken trace n pages journals formed in
     let count : length list ≡ length trace.operations = laws.count trace n (replies_in ran.logs) list run.logged in
     let shards : length journals ≡ n = length-map ran.journals (λ journal. journal.entries) ∙ run.journal_each in
     record {

@@ -1,5 +1,5 @@
 -- From what was read and written to the table of the top call.
-use Rattle.std.proofs.Common.{◌≡◌, ℕ, ◌+◌, ◌<◌, true, ltb, List, [], length, take, drop, Option, Some, None, Ok, Err, arith, refl, sym, ap, subst, inl, inr, ◌⊎◌, ◌∙◌, append-nil}
+use Rattle.std.proofs.Common.{◌≡◌, ℕ, ◌+◌, ◌<◌, ◌≤◌, true, false, ltb, List, [], length, take, drop, Option, Some, None, Ok, Err, arith, refl, sym, ap, subst, inl, inr, ◌⊎◌, ◌∙◌, append-nil}
 use Rattle.std.specs.Prelude.{codes}
 use Rattle.std.specs.Io.KnownBytes.{Appends, Consumes, IsAtEnd}
 use Rattle.std.proofs.lemmas.Bool.Decides.{nat_tests}
@@ -16,10 +16,12 @@ use Rattle.settings.specs.declared.settings.mode.Mode.{Mode}
 use Rattle.shardcache.specs.declared.status.Status.{Status}
 use Rattle.shardcache.specs.declared.status.Status.TheVariants as status
 use Rattle.settings.specs.Settings.{Settings, settings}
-use Rattle.shardcache.specs.Meanings.{Does, Meaning, Reading, meaning_of, script_read, trace_made, trace_read}
+use Rattle.report_check.specs.Frame.{framed}
+use Rattle.shardcache.specs.Audits.{Audit, Unframed, Unread, audit_for, audit_refusal_text, with_report}
+use Rattle.shardcache.specs.Meanings.{Does, Meaning, Reading, audit_read, meaning_of, script_read, trace_made, trace_read}
 use Rattle.shardcache.specs.Table.{FollowsTable, Writes, WritesAll}
 use Rattle.shardcache.specs.TraceFor.{TooLong, AtLine, refusal_text, script_refusal_text, trace_for}
-use Rattle.shardcache.specs.inside.Ending.{EndsCall, EndsInput, EndsOutput, EndsUnread, EndsWith, RefusesScript, RefusesTrace, Stops, Takes}
+use Rattle.shardcache.specs.inside.Ending.{EndsCall, EndsInput, EndsOutput, EndsUnread, EndsWith, RefusesAudit, RefusesScript, RefusesTrace, Stops, Takes}
 use Rattle.shardcache.proofs.Fitting.{too_long_for}
 
 -- ---- where nothing moved
@@ -149,6 +151,9 @@ ends_stopped m failed found answered ended ran before left before_sink after_sin
 pub is_too_long_script : (bytes : List ℕ) → most_trace_bytes < length bytes → script_of bytes ≡ Err script_refusal.TooLong
 is_too_long_script bytes long = let test : ltb most_trace_bytes (length bytes) ≡ true = grind (arith, nat_tests) in rw test refl
 
+pub is_too_long_audit : (found : Settings) (bytes : List ℕ) → most_trace_bytes < length bytes → audit_for found bytes ≡ Err (Unread TooLong)
+is_too_long_audit found bytes long = let test : ltb most_trace_bytes (length bytes) ≡ true = grind (arith, nat_tests) in rw test refl
+
 -- ---- what is read
 
 pub takes_trace : (found : Settings) (before left : Option (List ℕ)) (bytes : List ℕ) (trace : Trace) → Consumes before left bytes → IsAtEnd left
@@ -204,6 +209,53 @@ stops_long_script failed found answered before left before_sink after_sink taken
     written,
   );
 }
+
+-- what an input is that is cut so
+pub audit-of : (found : Settings) (bytes trace report : List ℕ) → length bytes ≤ most_trace_bytes → framed bytes ≡ Some (trace, report)
+    → audit_for found bytes ≡ with_report report (trace_for found trace)
+audit-of found bytes trace report short cut =
+    let test : ltb most_trace_bytes (length bytes) ≡ false = grind (arith, nat_tests, short) in
+    rw (test, cut) refl
+
+pub unframed : (found : Settings) (bytes : List ℕ) → length bytes ≤ most_trace_bytes → framed bytes ≡ None → audit_for found bytes ≡ Err Unframed
+unframed found bytes short none =
+    let test : ltb most_trace_bytes (length bytes) ≡ false = grind (arith, nat_tests, short) in
+    rw (test, none) refl
+
+pub takes_audit : (found : Settings) (before left : Option (List ℕ)) (bytes : List ℕ) (audit : Audit) → Consumes before left bytes → IsAtEnd left
+    → audit_for found bytes ≡ Ok audit → Takes audit_read found before left audit
+takes_audit found before left bytes audit took ended is = record { taken = bytes; took = took; reads = record { is = is; out = ended } }
+
+pub stops_audit : (failed : Type 0) (found : Settings) (answered : Status) (before left before_sink after_sink : Option (List ℕ)) (bytes : List ℕ) → Consumes before left bytes
+    → IsAtEnd left → RefusesAudit found bytes answered before_sink after_sink → Stops audit_read failed found answered before left before_sink after_sink
+stops_audit failed found answered before left before_sink after_sink bytes took ended (inl (is, written)) = record {
+  taken = bytes;
+  took = took;
+  ending = inl (audit_refusal_text Unframed, (Unframed, record { is = is; out = ended }, refl), written);
+}
+stops_audit failed found answered before left before_sink after_sink bytes took ended (inr (inl (number, fault, is, written))) = record {
+  taken = bytes;
+  took = took;
+  ending = inl (refusal_text (AtLine number fault), (Unread (AtLine number fault), record { is = is; out = ended }, refl), written);
+}
+stops_audit failed found answered before left before_sink after_sink bytes took ended (inr (inr memory)) =
+    record { taken = bytes; took = took; ending = inr (inr memory) }
+
+pub stops_long_audit : (failed : Type 0) (found : Settings) (answered : Status) (before left before_sink after_sink : Option (List ℕ)) (taken : List ℕ)
+    → length taken ≡ most_trace_bytes + 1 → Consumes before left taken → EndsWith answered status.Refused before_sink after_sink (refusal_text TooLong)
+    → Stops audit_read failed found answered before left before_sink after_sink
+stops_long_audit failed found answered before left before_sink after_sink taken long took written = record {
+  taken = taken;
+  took = took;
+  ending = inl (refusal_text TooLong, (Unread TooLong, record { is = is_too_long_audit found taken (omega (arith, long)); out = long }, refl), written);
+}
+
+-- from the trace to the input that has it
+pub refuses_framed : (found : Settings) (bytes trace report : List ℕ) (answered : Status) (before_sink after_sink : Option (List ℕ)) → length bytes ≤ most_trace_bytes
+    → framed bytes ≡ Some (trace, report) → RefusesTrace found trace answered before_sink after_sink → RefusesAudit found bytes answered before_sink after_sink
+refuses_framed found bytes trace report answered before_sink after_sink short cut (inl (number, fault, is, written)) =
+    inr (inl (number, fault, audit-of found bytes trace report short cut ∙ ap (with_report report) is, written))
+refuses_framed found bytes trace report answered before_sink after_sink short cut (inr memory) = inr (inr memory)
 
 -- ---- whatever is read
 

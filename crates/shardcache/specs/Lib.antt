@@ -1,3 +1,4 @@
+pub mod Audits
 pub mod Codes
 pub mod Meanings
 pub mod Table

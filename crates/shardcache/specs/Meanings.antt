@@ -16,7 +16,9 @@ use Rattle.value_script.specs.Reading as script_refusal
 use Rattle.values_mode.specs.Text.{values_text}
 use Rattle.settings.specs.declared.settings.mode.Mode.{Mode}
 use Rattle.settings.specs.declared.settings.mode.Mode.TheVariants.{Run, Sim, Gen, Dirty, Index, Values}
+use Rattle.settings.specs.declared.settings.mode.Mode.TheVariants as modes
 use Rattle.settings.specs.Settings.{Settings}
+use Rattle.shardcache.specs.Audits.{Audit, Audited, NotAudited, Unframed, Unread, audit_for, audit_refusal_text}
 use Rattle.shardcache.specs.TraceFor.{NotRun, TooLong, AtLine, refusal_text, script_refusal_text, trace_for}
 
 -- ---- what is read
@@ -32,6 +34,13 @@ abbrev pub IsScriptReadOut : Result (List Order) ScriptRefusal → List ℕ → 
 IsScriptReadOut (Ok script) taken left = IsAtEnd left
 IsScriptReadOut (Err script_refusal.TooLong) taken left = length taken ≡ most_trace_bytes + 1
 IsScriptReadOut (Err (script_refusal.AtLine number cause)) taken left = IsAtEnd left
+
+-- the same for an input of an audit
+abbrev pub IsAuditReadOut : Result Audit NotAudited → List ℕ → Option (List ℕ) → Type 0
+IsAuditReadOut (Ok audit) taken left = IsAtEnd left
+IsAuditReadOut (Err Unframed) taken left = IsAtEnd left
+IsAuditReadOut (Err (Unread TooLong)) taken left = length taken ≡ most_trace_bytes + 1
+IsAuditReadOut (Err (Unread (AtLine number fault))) taken left = IsAtEnd left
 
 -- How a mode takes what it works on: whether it reads its source, which bytes it takes, as what, and how a refusal is printed. Input
 -- is what is accepted, and Why is why nothing is.
@@ -82,6 +91,18 @@ script_read = record {
   refusal = script_refusal_text;
 }
 
+-- a trace and its report that are read
+abbrev pub audit_read : Reading
+audit_read = record {
+  Input = Audit;
+  Why = NotAudited;
+  reads = true;
+  bytes_of = λ found taken. taken;
+  meaning = audit_for;
+  IsRead = IsAuditReadOut;
+  refusal = audit_refusal_text;
+}
+
 -- what was taken, or is made, is read as this
 pub record ReadsAs (r : Reading) (found : Settings) (taken : List ℕ) (left : Option (List ℕ)) (read : Result r.Input r.Why) : Type 0 where
   pub is : r.meaning found (r.bytes_of found taken) ≡ read
@@ -118,6 +139,7 @@ abbrev pub meaning_of : Mode → Meaning
 meaning_of Run = record { reading = trace_read; IsOutput = Shown IsReportOf }
 meaning_of Sim = record { reading = trace_read; IsOutput = Shown IsReportOf }
 meaning_of Gen = record { reading = trace_made; IsOutput = Shown IsSummaryOf }
+meaning_of modes.Audit = record { reading = audit_read; IsOutput = Audited }
 meaning_of Dirty = record { reading = trace_read; IsOutput = Written dirty_text }
 meaning_of Index = record { reading = trace_read; IsOutput = Written index_text }
 meaning_of Values = record { reading = script_read; IsOutput = Written values_text }

@@ -11,7 +11,7 @@ use Rattle.value_script.specs.Causes.{cause_name as script_cause_name}
 use Rattle.value_script.specs.Reading.{Refusal as ScriptRefusal}
 use Rattle.value_script.specs.Reading as script_refusal
 use Rattle.settings.specs.declared.settings.mode.Mode.{Mode}
-use Rattle.settings.specs.declared.settings.mode.Mode.TheVariants.{Run, Sim, Gen, Dirty, Index, Values}
+use Rattle.settings.specs.declared.settings.mode.Mode.TheVariants.{Run, Sim, Gen, Audit, Dirty, Index, Values}
 use Rattle.settings.specs.Settings.{Settings}
 use Rattle.shardcache.specs.declared.misfit.Misfit.{Misfit}
 use Rattle.shardcache.specs.declared.misfit.Misfit.TheVariants.{Version, PagesTooFew}
@@ -26,11 +26,12 @@ pub data NotRun : Type 0 where
   TooLong : NotRun
   AtLine : ℕ → Fault → NotRun
 
--- the modes that run a trace on shards know tables
+-- the modes that run a trace on shards, or check such a run, know tables
 abbrev pub knows_tables : Mode → Bool
 knows_tables Run = true
 knows_tables Sim = true
 knows_tables Gen = true
+knows_tables Audit = true
 knows_tables Dirty = false
 knows_tables Index = false
 knows_tables Values = false

@@ -22,15 +22,16 @@ use std::thread::Threads;
 /// | `run` | reads the trace, runs it with each shard on a thread of its own, writes the report |
 /// | `sim` | reads the trace, runs it on one thread with the shards in an order that is drawn from `--number`, writes the report |
 /// | `gen` | makes a trace of `--commands` commands from `--number`, runs it as `sim` does, writes the summary; reads nothing |
+/// | `audit` | reads a trace behind its length and a report behind that, checks the report, writes the verdict |
 /// | `dirty` | reads a trace, keeps its puts in a queue until they are flushed, writes the lines that leave it and the answers |
 /// | `index` | reads a trace, sets the number of each put under its key in an index, writes the answers |
 /// | `values` | reads a script, runs it on a store of long values in fragments, writes the answers |
 ///
 /// | Status | What is written |
 /// |---|---|
-/// | `Done` | the report or the summary of legal and complete journals, those of `ran`, the record of the run; or the text of a store |
+/// | `Done` | the report or the summary of legal and complete journals, those of `ran`, the record of the run; or another mode's text |
 /// | `Usage` | `usage`, exactly where the words ask for nothing that the program does; nothing was read |
-/// | `Refused` | `refused line L CAUSE`, exactly where what was read or made is no trace or script, or a trace that is not run so |
+/// | `Refused` | `refused line L CAUSE`, exactly where what was read or made is no trace, script or audit, or a trace that is not run so |
 /// | `ReadFault` | `read fault`, only where the source failed |
 /// | `WriteFault` | a front of what should have been written, only where the sink failed |
 /// | `Memory` | nothing, where memory ran out |

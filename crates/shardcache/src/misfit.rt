@@ -28,12 +28,12 @@ impl Misfit {
     }
 }
 
-/// Whether the mode runs a trace on shards, which know tables.
+/// Whether the mode runs a trace on shards, which know tables, or checks such a run.
 fn knows_tables(mode: Mode) -> bool
     ensures { result ≡ knows_tables mode }
 {
     match mode {
-        Mode::Run | Mode::Sim | Mode::Gen => true,
+        Mode::Run | Mode::Sim | Mode::Gen | Mode::Audit => true,
         Mode::Dirty | Mode::Index | Mode::Values => false,
     }
 }

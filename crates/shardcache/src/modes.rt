@@ -10,6 +10,7 @@ ghost use Rattle.shardcache.specs.inside.Ending.{EndsCall};
 ghost use Rattle.settings.specs.declared.settings.mode.Mode.{Mode as Modes};
 
 use crate::asked::Asked;
+use crate::auditing::{check_report, read_audit};
 use crate::outcome::Outcome;
 use crate::printing::write_line;
 use crate::reading::{make_trace_of, read_script, read_trace};
@@ -161,6 +162,31 @@ fn play_script<S: Source, K: Sink>(
     }
 }
 
+/// Reads a trace and what may be its report, checks it, and writes the verdict.
+fn audit_report<R, S, K>(
+    rt: &R,
+    alloc: Global,
+    settings: Settings,
+    source: &mut S,
+    sink: &mut K,
+) -> Outcome
+where
+    R: Threads + Sync,
+    S: Source,
+    K: Sink,
+    requires some { 1 ≤ settings.shards }
+    requires most { settings.shards ≤ most_shards }
+    requires pages { ArePages settings.pages }
+    ensures ending { EndsCall (meaning_of Modes.Audit) (Rose (S.faults source.old) (S.faults source.new)) (view settings)
+        result.status result.ran (S.left source.old) (S.left source.new) (K.written sink.old) (K.written sink.new) }
+    ensures fault { result.status ≡ Status.WriteFault → Rose (K.faults sink.old) (K.faults sink.new) }
+{
+    match read_audit(rt, alloc, settings, source, sink) {
+        Ok(framed) => check_report(alloc, settings, &framed, sink),
+        Err(answered) => Outcome::without_run(answered),
+    }
+}
+
 /// Does what the mode asks.
 fn run_mode<R, S, K, G>(
     rt: &R,
@@ -190,6 +216,7 @@ where
             report_trace(rt, alloc, settings, order, source, sink, gates)
         }
         Mode::Gen => summarize_made(rt, alloc, settings, sink, gates),
+        Mode::Audit => audit_report(rt, alloc, settings, source, sink),
         Mode::Dirty => flush_trace(rt, alloc, settings, source, sink),
         Mode::Index => number_trace(rt, alloc, settings, source, sink),
         Mode::Values => play_script(alloc, settings, source, sink),

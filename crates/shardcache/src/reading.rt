@@ -28,8 +28,8 @@ use std::thread::Threads;
 use trace_text::{ParseRefusal, Trace, parse_on};
 use value_script::{Script, ScriptRefusal, parse_script};
 
-/// The bytes of a trace or of a script: all that the source has, where it can have so many.
-fn read_bytes<S: Source>(alloc: Global, source: &mut S) -> Result<Vec<u8>, ReadStop>
+/// The bytes of a trace, of a script or of an audit's input: all that the source has, where it can have so many.
+pub(crate) fn read_bytes<S: Source>(alloc: Global, source: &mut S) -> Result<Vec<u8>, ReadStop>
     ensures taken { IfOk result (λ bytes. Consumes (S.left source.old) (S.left source.new) bytes.items) }
     ensures at_end { OnOk result (IsAtEnd (S.left source.new)) }
     ensures within { IfOk result (λ bytes. length bytes.items ≤ most_trace_bytes) }
@@ -67,7 +67,7 @@ fn keep_fit<K: Sink>(
 ///
 /// # Errors
 /// How the call ends: the refusal was written, or memory ran out.
-fn parse_trace<R: Threads + Sync, K: Sink>(
+pub(crate) fn parse_trace<R: Threads + Sync, K: Sink>(
     rt: &R,
     alloc: Global,
     settings: Settings,

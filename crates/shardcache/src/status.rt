@@ -5,7 +5,7 @@ ghost use Rattle.shardcache.specs.Codes.{code_of};
 /// How a call of the program ended.
 #[derive(Clone, Copy, Debug, PartialEq, Eq)]
 pub enum Status {
-    /// All that the mode writes was written: the report, the summary, or the answers of a store.
+    /// All that the mode writes was written: the report, the summary, the verdict, or the answers of a store.
     Done,
     /// The words ask for nothing that the program does.
     Usage,

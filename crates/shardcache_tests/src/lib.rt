@@ -10,3 +10,5 @@ mod program_tests;
 mod settings_tests;
 #[cfg(test)]
 mod trace_run_tests;
+#[cfg(test)]
+mod verdict_tests;

@@ -1,6 +1,8 @@
 //! The program on worked traces and words.
+mod audits;
 mod evictions;
 mod examples;
+mod faults;
 mod gates;
 mod judged;
 mod limits;
@@ -166,6 +168,7 @@ fn always_out_of_memory_would_not_do(rt: HostRuntime) -> Result<(), Fail> {
         (&["run", "--shards", "4"], b"put a 1\nget a\nscan a 3\n"),
         (&["sim", "--shards", "2", "--number", "7"], b"put a 1\n"),
         (&["gen", "--number", "7", "--commands", "10"], b""),
+        (&["audit"], b"0\n"),
         (&["dirty"], b"put a 1\nget a\n"),
         (&["index"], b"put a 1\nget a\n"),
         (&["values"], b"set 1 a\nread 1 0 1\n"),

@@ -5,7 +5,7 @@ use arrayvec::ArrayVec;
 use std::marker::Model;
 
 /// The bytes of a block.
-const BLOCK: usize = 16_384;
+const BLOCK: usize = 65_536;
 
 /// Text that the sink was not given yet. It takes no memory of an allocator.
 #[derive(Drop)]

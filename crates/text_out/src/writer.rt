@@ -5,6 +5,7 @@ ghost use Rattle.text_lemmas.specs.Writing.{Writes};
 
 use crate::block::Block;
 use itoa::Buffer as Digits;
+use layout::PAGE;
 use outside::{Failed, Sink, write_all};
 use std::marker::Model;
 
@@ -92,6 +93,18 @@ impl<'s, K: Sink> Writer<'s, K> {
         if self.block.try_add(text) {
             return Ok(());
         }
+        write_all(self.sink, text)
+    }
+
+    /// Adds `text`, which may be long. Where it has more bytes than a page, the sink is given what waits, and then the text
+    /// from where it stands.
+    pub fn hand_over(&mut self, text: &[u8]) -> Result<(), Failed>
+        ensures { Writes result self.old self.new text.now }
+    {
+        if text.len() <= PAGE as usize {
+            return self.put(text);
+        }
+        self.flush()?;
         write_all(self.sink, text)
     }
 

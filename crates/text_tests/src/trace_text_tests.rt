@@ -1,4 +1,6 @@
 //! Which shard owns a key, where commands go, the longest value of a trace, and the tables of version 2.
+mod limits;
+
 ghost use Rattle.std.specs.Prelude.{◌≡◌, ◌<◌, [], ◌∷◌};
 ghost use Rattle.trace_text.specs.Parts.{hash};
 

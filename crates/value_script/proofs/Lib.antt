@@ -1,4 +1,3 @@
 pub mod Cuts
 pub mod LinesRead
 pub mod Placed
-pub mod Spelled

@@ -1,22 +1,14 @@
 -- What one line of a script says.
-use Rattle.std.specs.Prelude.{ℕ, ◌-◌, ◌+◌, ◌*◌, ◌&&◌, nat_le, List, length, Option, Some, None, Result, Ok, Err, codes, decimal, fold, if◌then◌else◌}
+use Rattle.std.specs.Prelude.{ℕ, ◌-◌, nat_le, List, length, Option, Some, None, Result, Ok, Err, codes, if◌then◌else◌}
 use Rattle.std.specs.List.{list_all}
 use Rattle.std.specs.Str.{bytes_eq}
 use Rattle.trace_text.specs.Line.{cut_at, is_value_byte}
+pub use Rattle.numerals.specs.Numeral.{digits_in, number_of}
 use Rattle.value_script.specs.declared.refusal.Cause.{Cause}
 use Rattle.value_script.specs.declared.refusal.Cause.TheVariants.{UnknownWord, MissingField, Number, ExtraField, ValueLength, ValueByte}
 use Rattle.value_script.specs.declared.line.Word.{Word}
 use Rattle.value_script.specs.declared.line.Word.TheVariants as words
 use Rattle.value_script.specs.Order.{Order, Set, Read, Drop, names, greatest_value, greatest_at, greatest_count}
-
--- what the digits of a field say
-abbrev pub digits_in : List ℕ → ℕ
-digits_in field = fold (λ n b. n * 10 + (b - 48)) 0 field
-
--- the number up to the greatest one that a field spells, without a leading zero: the field is that number in decimal
-abbrev pub number_of : ℕ → List ℕ → Option ℕ
-number_of greatest field =
-    if nat_le (digits_in field) greatest && bytes_eq (decimal (digits_in field)) field then Some (digits_in field) else None
 
 -- what is wrong with a value
 abbrev pub value_fault : List ℕ → Option Cause

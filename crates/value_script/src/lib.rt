@@ -5,16 +5,14 @@
 #![tactic(auto)]
 
 mod command;
-mod law;
 mod line;
 mod lines;
-mod numbers;
 mod reading;
 mod refusal;
 mod script;
 
 pub use command::Command;
-pub use law::numbers_are_spelled_once;
+pub use numerals::numbers_are_spelled_once;
 pub use reading::parse_script;
 pub use refusal::{Cause, ScriptRefusal};
 pub use script::Script;

@@ -8,8 +8,8 @@ ghost use Rattle.value_script.specs.Order.{Order};
 ghost use Rattle.value_script.specs.inside.Found.{reading_of, EndsIn, IsRestOf};
 
 use crate::lines::cut_at_space;
-use crate::numbers::number_of;
 use crate::refusal::Cause;
+use numerals::number_of;
 
 /// The greatest name.
 const GREATEST_NAME: u32 = 999;

@@ -54,6 +54,11 @@ pub record TookWhole (d : Ledger) (m : SeatState) (found : ℕ) (n : SeatState) 
   pub after : n.0 ≡ Owner (took_whole listed d)
   pub slots : n.1 ≡ m.1
 
+-- where none was on the list, it is taken as it is; else nothing has changed
+pub record SawList (d : Ledger) (m : SeatState) (found : ℕ) (n : SeatState) : Type 0 where
+  pub none : found ≡ 0 → TookWhole d m found n
+  pub some : found ≢ 0 → n ≡ m
+
 -- the ticket t comes in hand with its piece, and these tickets are left of the walk
 pub record WalkedOn (t : ℕ) (d : Ledger) (m : SeatState) (found : ℕ) (n : SeatState) : Type 0 where
   pub low : found ≤ sizes.tickets

@@ -200,8 +200,26 @@ number-at q (part ∷ parts) (suc j) i here =
     go true rest k = rw (one-more k) refl
     go false rest k = rw (none-more k) refl
 
--- The log of the own parts of shard s, where one of them was done more: the replies to the others are those that they were.
--- That the numbers of the parts for one peer are its parts is a law.
+-- The log of the parts that shard o issues, where one of those that shard s does was done more: the replies to the others are those that
+-- they were. That the numbers of the parts for one peer are its parts is a law.
+pub part-logged : (trace : Trace) (n o s j i : ℕ) (log : List (Option (ReplyKind × List ℕ))) (reply reply' : ℕ → Option Reply) (answer : Reply)
+    → IsNumbered trace.operations → map (λ part. part.0) (filter (λ part. part.1 == s) (issued_parts trace n o)) ≡ parts trace n o s
+    → length log ≡ length (issued_parts trace n o) → slice_get (issued_parts trace n o) j ≡ Some (i, s)
+    → reply' i ≡ Some answer → ((k : ℕ) → k ≢ i → reply' k ≡ reply k)
+    → at_shard s (issued_parts trace n o) log ≡ map (λ k. option_map spelled (reply k)) (parts trace n o s)
+    → at_shard s (issued_parts trace n o) (slice_set log j (Some (spelled answer))) ≡ map (λ k. option_map spelled (reply' k)) (parts trace n o s)
+part-logged trace n o s j i log reply reply' answer numbered peer same here answered others logged =
+    let f : ℕ → Option (ReplyKind × List ℕ) = λ k. option_map spelled (reply k) in
+    let g : ℕ → Option (ReplyKind × List ℕ) = λ k. option_map spelled (reply' k) in
+    let is : g i ≡ Some (spelled answer) = ap (option_map spelled) answered in
+    let among : slice_get (parts trace n o s) (place_at s (issued_parts trace n o) j) ≡ Some i =
+    ap (λ list. slice_get list (place_at s (issued_parts trace n o) j)) (sym peer) ∙ number-at s (issued_parts trace n o) j i here in
+    set-at s (issued_parts trace n o) log j i (Some (spelled answer)) same here
+    ∙ ap (λ list. slice_set list (place_at s (issued_parts trace n o) j) (Some (spelled answer))) logged
+    ∙ ap (slice_set (map f (parts trace n o s)) (place_at s (issued_parts trace n o) j)) (sym is)
+    ∙ told-at f g 0 (parts trace n o s) (place_at s (issued_parts trace n o) j) i (parts-rise trace n o s numbered) among (λ k other. ap (option_map spelled) (others k other))
+
+-- the same of the own parts of shard s
 pub own-logged : (trace : Trace) (n s j i : ℕ) (log : List (Option (ReplyKind × List ℕ))) (reply reply' : ℕ → Option Reply) (answer : Reply)
     → IsNumbered trace.operations → map (λ part. part.0) (filter (λ part. part.1 == s) (issued_parts trace n s)) ≡ parts trace n s s
     → length log ≡ length (issued_parts trace n s) → slice_get (issued_parts trace n s) j ≡ Some (i, s)
@@ -209,15 +227,7 @@ pub own-logged : (trace : Trace) (n s j i : ℕ) (log : List (Option (ReplyKind 
     → at_shard s (issued_parts trace n s) log ≡ map (λ k. option_map spelled (reply k)) (parts trace n s s)
     → at_shard s (issued_parts trace n s) (slice_set log j (Some (spelled answer))) ≡ map (λ k. option_map spelled (reply' k)) (parts trace n s s)
 own-logged trace n s j i log reply reply' answer numbered peer same here answered others logged =
-    let f : ℕ → Option (ReplyKind × List ℕ) = λ k. option_map spelled (reply k) in
-    let g : ℕ → Option (ReplyKind × List ℕ) = λ k. option_map spelled (reply' k) in
-    let is : g i ≡ Some (spelled answer) = ap (option_map spelled) answered in
-    let among : slice_get (parts trace n s s) (place_at s (issued_parts trace n s) j) ≡ Some i =
-    ap (λ list. slice_get list (place_at s (issued_parts trace n s) j)) (sym peer) ∙ number-at s (issued_parts trace n s) j i here in
-    set-at s (issued_parts trace n s) log j i (Some (spelled answer)) same here
-    ∙ ap (λ list. slice_set list (place_at s (issued_parts trace n s) j) (Some (spelled answer))) logged
-    ∙ ap (slice_set (map f (parts trace n s s)) (place_at s (issued_parts trace n s) j)) (sym is)
-    ∙ told-at f g 0 (parts trace n s s) (place_at s (issued_parts trace n s) j) i (parts-rise trace n s s numbered) among (λ k other. ap (option_map spelled) (others k other))
+    part-logged trace n s s j i log reply reply' answer numbered peer same here answered others logged
 
 -- What is told of the commands of one origin stays where it changes at no command of it.
 pub told-of : {X : Type 0} (f g : ℕ → X) (trace : Trace) (n o s : ℕ) → ((k : ℕ) → origin k n ≡ o → g k ≡ f k) → map g (parts trace n o s) ≡ map f (parts trace n o s)

@@ -1,11 +1,11 @@
 -- The log of a node that is done, from what it has of the parts that each shard does.
-use Rattle.std.proofs.Common.{◌≡◌, ℕ, ◌<◌, ◌==◌, ◌&&◌, Bool, true, false, true≢false, cond, List, [], ◌∷◌, length, map, get_or, arith, refl, sym, ap, ◌∙◌}
-use Rattle.std.proofs.Common.{Option}
+use Rattle.std.proofs.Common.{◌≡◌, ◌≢◌, ℕ, ◌<◌, ◌==◌, ◌&&◌, Bool, true, false, true≢false, cond, List, [], ◌∷◌, length, map, replicate, slice_get, slice_set, get_or, arith, refl, sym, ap, ◌∙◌, inl, inr}
+use Rattle.std.proofs.Common.{Option, Some, None}
 use Rattle.std.specs.List.{All, filter, flat_map, range_with_len}
 use Rattle.std.specs.Option.{option_map}
 use Rattle.std.proofs.Math.Nat.{mod-lt}
-use Rattle.std.proofs.lemmas.Bool.{and_from, eq-eqb, eqb-true}
-use Rattle.std.proofs.lemmas.List.{length-map}
+use Rattle.std.proofs.lemmas.Bool.{and_from, cases_eq, eq-eqb, eqb-true}
+use Rattle.std.proofs.lemmas.List.{length-map, length-set}
 use Rattle.std.proofs.lemmas.List.Elements.{All-append, All-cons, All-head, All-map, All-nil, All-same, All-tail}
 use Rattle.std.proofs.lemmas.List.FromFn.{get_or-range_with_len, length-range_with_len}
 use Rattle.rows.specs.Operation.{Operation, is_scan}
@@ -17,7 +17,8 @@ use Rattle.cache_model.specs.OwnParts.{HoldsReplies, issued_parts, parts_of}
 use Rattle.rows.specs.Spelled.{spelled}
 use Rattle.part_lemmas.specs.Due.{operations_for}
 use Rattle.part_lemmas.proofs.OwnParts.IssuedParts.{AreOfPeers}
-use Rattle.part_lemmas.proofs.OwnParts.LogPlaces.{at-cons, at_shard}
+use Rattle.part_lemmas.proofs.Cursors.Places.{IsNumbered}
+use Rattle.part_lemmas.proofs.OwnParts.LogPlaces.{at-cons, at_shard, part-logged, set-other, told-of}
 use Rattle.part_lemmas.proofs.Together.Lists.{all-unfiltered, all-unmapped}
 
 -- Parts.
@@ -117,3 +118,61 @@ holds-replies peers trace n o reply log some many each =
     let f : ℕ × ℕ → Option (ReplyKind × List ℕ) = λ part. option_map spelled (reply part) in
     same-log n issued log (map f issued) many (length-map issued f) (issued-below trace n o some)
     (λ q below. each q below ∙ ap (map (λ i. f (i, q))) (sym (peers trace n o q below)) ∙ sym (at-told f q issued))
+
+map-same : {X Y : Type 0} (f g : X → Y) (xs : List X) → ((x : X) → g x ≡ f x) → map f xs ≡ map g xs
+map-same f g [] same = refl
+map-same f g (x ∷ xs) same = rw same (ap (λ ys. f x ∷ ys) (map-same f g xs same))
+
+-- A log that holds replies holds them with one reply more, to the part of command i that shard s does, where the others are those that
+-- they were.
+pub holds-more : AreOfPeers → (trace : Trace) (n o s j i : ℕ) (reply reply' : ℕ × ℕ → Option Reply) (answer : Reply) (log : List (Option (ReplyKind × List ℕ)))
+    → 0 < n → s < n → IsNumbered trace.operations → slice_get (issued_parts trace n o) j ≡ Some (i, s)
+    → reply' (i, s) ≡ Some answer → ((k : ℕ) → k ≢ i → reply' (k, s) ≡ reply (k, s)) → ((q : ℕ) → q ≢ s → (k : ℕ) → reply' (k, q) ≡ reply (k, q))
+    → HoldsReplies trace n o reply log → HoldsReplies trace n o reply' (slice_set log j (Some (spelled answer)))
+holds-more peers trace n o s j i reply reply' answer log some below numbered there answered same others holds =
+    holds-replies peers trace n o reply' (slice_set log j (Some (spelled answer))) some (length-set log j (Some (spelled answer)) ∙ many)
+    (λ q less. elim (cases_eq q s) [
+      | inl is ↦ rw is (part-logged trace n o s j i log (λ k. reply (k, s)) (λ k. reply' (k, s)) answer numbered (peers trace n o s below) many there answered same (at s below))
+      | inr other ↦
+          set-other s q issued log j i (Some (spelled answer)) there other
+          ∙ at q less
+          ∙ map-same (λ k. option_map spelled (reply (k, q))) (λ k. option_map spelled (reply' (k, q))) (parts trace n o q) (λ k. ap (option_map spelled) (others q other k))
+    ])
+  where
+    issued : List (ℕ × ℕ)
+    issued = issued_parts trace n o
+
+    text : ℕ × ℕ → Option (ReplyKind × List ℕ)
+    text part = option_map spelled (reply part)
+
+    many : length log ≡ length issued
+    many = ap length holds ∙ length-map issued text
+
+    at : (q : ℕ) → q < n → at_shard q issued log ≡ map (λ k. option_map spelled (reply (k, q))) (parts trace n o q)
+    at q less = ap (at_shard q issued) holds ∙ at-told text q issued ∙ ap (map (λ k. text (k, q))) (peers trace n o q less)
+
+-- The log of an origin holds what it held, where replies changed that are not of its commands.
+pub holds-other : AreOfPeers → (trace : Trace) (n o : ℕ) (reply reply' : ℕ × ℕ → Option Reply) (log : List (Option (ReplyKind × List ℕ))) → 0 < n
+    → ((k q : ℕ) → origin k n ≡ o → reply' (k, q) ≡ reply (k, q)) → HoldsReplies trace n o reply log → HoldsReplies trace n o reply' log
+holds-other peers trace n o reply reply' log some same holds =
+    let issued = issued_parts trace n o in
+    let text : ℕ × ℕ → Option (ReplyKind × List ℕ) = λ part. option_map spelled (reply part) in
+    holds-replies peers trace n o reply' log some (ap length holds ∙ length-map issued text)
+    (λ q less.
+    ap (at_shard q issued) holds ∙ at-told text q issued ∙ ap (map (λ k. text (k, q))) (peers trace n o q less)
+    ∙ sym (told-of (λ k. option_map spelled (reply (k, q))) (λ k. option_map spelled (reply' (k, q))) trace n o q (λ k e. ap (option_map spelled) (same k q e))))
+
+-- a log that holds none holds none yet
+pub holds-none : (trace : Trace) (n o : ℕ) (reply : ℕ × ℕ → Option Reply) → ((part : ℕ × ℕ) → reply part ≡ None) → (m : ℕ) → m ≡ length (issued_parts trace n o)
+    → HoldsReplies trace n o reply (replicate m None)
+holds-none trace n o reply none m many = ap (λ k. replicate k None) many ∙ go (issued_parts trace n o)
+  where
+    go : (parts : List (ℕ × ℕ)) → replicate (length parts) None ≡ map (λ part. option_map spelled (reply part)) parts
+    go [] = refl
+    go (part ∷ parts) = let here : reply part ≡ None = none part in rw here (ap (λ list. None ∷ list) (go parts))
+
+-- the same replies under other names
+pub holds-same : (trace : Trace) (n o : ℕ) (reply reply' : ℕ × ℕ → Option Reply) (log : List (Option (ReplyKind × List ℕ))) → ((part : ℕ × ℕ) → reply' part ≡ reply part)
+    → HoldsReplies trace n o reply log → HoldsReplies trace n o reply' log
+holds-same trace n o reply reply' log same holds =
+    holds ∙ map-same (λ part. option_map spelled (reply part)) (λ part. option_map spelled (reply' part)) (issued_parts trace n o) (λ part. ap (option_map spelled) (same part))

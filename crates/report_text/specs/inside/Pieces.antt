@@ -13,6 +13,7 @@ use Rattle.report_text.specs.declared.pieces.Piece.{Piece}
 use Rattle.report_text.specs.declared.stretch.Stretch.{Stretch}
 use Rattle.report_text.specs.inside.Places.{ArePlaces}
 use Rattle.report_text.specs.inside.Stretches.{answer_lines}
+pub use Rattle.report_text.specs.AnswerLines.{piece_commands}
 
 -- where no write failed, the text is the lines of the answers to the commands of a stretch
 abbrev pub SaysAnswers : Trace → ℕ → List Log → Stretch → Held → Type 0
@@ -22,10 +23,6 @@ SaysAnswers trace n logs stretch held =
 -- where no write failed, the text is the line of a shard's journal
 abbrev pub SaysJournal : ℕ → JournalState → Held → Type 0
 SaysJournal shard journal held = held.faults ≡ 0 → held.bytes.items ≡ line (journal_text (shard, journal.entries))
-
--- how many commands a piece has, but for the last ones
-abbrev pub piece_commands : ℕ
-piece_commands = 1024
 
 -- where piece k of a round begins that starts at a command, of so many commands
 abbrev pub begins : ℕ → ℕ → ℕ → ℕ

@@ -20,8 +20,9 @@ use crate::put::Put;
 use crate::tables::Tables;
 use key_table::{RowAt, Spot};
 use layout::ObjectKind;
+use object_log::NewContent;
 use regions::{NeedSegment, Place, Region};
-use row_bytes::{Links, NO_LINK, NewRow, row_size, write_row};
+use row_bytes::{Links, NO_LINK, NewRow, row_header, row_size};
 use rows::Key;
 
 // The links of a row that is not in the chain yet: both lead to no row.
@@ -210,16 +211,18 @@ fn place_row(
     ensures grouped { IfOk result (λ _. AreGrouped region.old → AreGrouped region.new) }
     ensures stay { Stay region.old region.new }
 {
-    let place = region.place(group, ObjectKind::Row as u8, row_size(row.key, row.value))?;
-    write_row(
-        region.bytes_mut(place),
-        number,
-        row.number,
-        UNLINKED,
-        row.table,
-        row.key,
-        row.value,
-    );
+    let header = row_header(number, row.number, UNLINKED, row.table, row.key, row.value);
+    let content = NewContent {
+        header: header.as_slice(),
+        first: row.key,
+        second: row.value,
+    };
+    let place = region.place_with(
+        group,
+        ObjectKind::Row as u8,
+        row_size(row.key, row.value),
+        content,
+    )?;
     Ok(place)
 }
 

@@ -60,7 +60,7 @@ fn erase_even(alloc: Global, trial: &mut Trial) -> Result<bool, AllocError> {
 }
 
 /// Two segments of ten rows each, of which every other one goes.
-fn halve(alloc: Global, trial: &mut Trial) -> Result<bool, AllocError> {
+pub(crate) fn halve(alloc: Global, trial: &mut Trial) -> Result<bool, AllocError> {
     Ok(fill(alloc, trial, 0)? && fill(alloc, trial, 10)? && erase_even(alloc, trial)?)
 }
 

@@ -19,6 +19,7 @@ pub(crate) enum Step<'a> {
     Scan(&'a [u8], u32, u32, &'a [u8]),
     EvictLast(Option<u32>),
     Compact(Option<Compacted>),
+    Guard,
     Unguard,
     /// The next steps are of this table.
     Table(u8),
@@ -56,6 +57,7 @@ fn answers(trial: &mut Trial, step: &Step<'_>) -> bool {
         Step::Scan(lo, count, keys, bytes) => scans(trial, lo, *count, *keys, bytes),
         Step::EvictLast(answer) => trial.evict_last() == *answer,
         Step::Compact(answer) => trial.compact() == *answer,
+        Step::Guard => trial.guard(),
         Step::Unguard => trial.unguard(),
         Step::Table(table) => trial.turn_to(*table),
         Step::GoOn(answer) => trial.go_on() == *answer,

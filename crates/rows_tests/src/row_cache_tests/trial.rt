@@ -193,6 +193,16 @@ impl Trial {
         self.cache.give_up()
     }
 
+    /// One guard more on the table's group. False where three stand.
+    pub(crate) fn guard(&mut self) -> bool {
+        let group = self.cache.group_of(self.table);
+        if self.cache.guards(group) >= 3 {
+            return false;
+        }
+        self.cache.guard(group);
+        true
+    }
+
     /// False where no guard stands on the table's group.
     pub(crate) fn unguard(&mut self) -> bool {
         let group = self.cache.group_of(self.table);

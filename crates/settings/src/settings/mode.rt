@@ -11,6 +11,8 @@ pub enum Mode {
     Sim,
     /// Makes a trace of the number, runs it as `sim` does, and writes a summary.
     Gen,
+    /// Checks a report against its trace, and writes the verdict.
+    Audit,
     /// Keeps the puts of a trace in a queue until they are flushed, and writes what came of it.
     Dirty,
     /// Numbers the keys of a trace in an index, and writes what came of it.
@@ -27,6 +29,7 @@ pub fn mode_of(word: &str) -> Option<Mode>
         "run" => Some(Mode::Run),
         "sim" => Some(Mode::Sim),
         "gen" => Some(Mode::Gen),
+        "audit" => Some(Mode::Audit),
         "dirty" => Some(Mode::Dirty),
         "index" => Some(Mode::Index),
         "values" => Some(Mode::Values),
@@ -39,7 +42,7 @@ pub fn are_shards(mode: Mode, shards: u32) -> bool
     ensures { result ≡ are_shards mode shards }
 {
     match mode {
-        Mode::Run | Mode::Sim | Mode::Gen => true,
+        Mode::Run | Mode::Sim | Mode::Gen | Mode::Audit => true,
         Mode::Dirty | Mode::Index | Mode::Values => shards == 1,
     }
 }

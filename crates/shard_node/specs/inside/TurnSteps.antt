@@ -7,7 +7,7 @@ use Rattle.shard_node.specs.declared.seen.Seen.{Seen}
 use Rattle.shard_node.specs.declared.shard.Shard.{Shard}
 use Rattle.shard_node.specs.Standing.{InStanding}
 use Rattle.shard_node.specs.Turns.{GoesThroughGate, HasCause, IsIdle}
-use Rattle.shard_node.specs.inside.Moves.{Goes, ReceivesNone, TellsFirst}
+use Rattle.shard_node.specs.inside.Moves.{Goes, NonePassed, ReceivesNone, TellsFirst}
 use Rattle.shard_node.specs.inside.Shards.{node_state}
 use Rattle.shard_node.specs.inside.Steps.{IsStep}
 
@@ -30,6 +30,7 @@ module _ {L G : Type 0} (traffic : L → Traffic) (end : L → LinkEnd) where
         → HasCause traffic holds (node_state began) (node_state now)
     pub held_up : InStanding traffic (node_state began) → seen.moved ≡ false → now.store.backs ≡ began.store.backs
         → IsIdle traffic holds (node_state began) (node_state now)
+    pub quiet : seen.moved ≡ false → NonePassed traffic (node_state began) (node_state now)
 
   -- and whether they did
   pub record SeesTurn (holds : G → ℕ) (lets : G → ℕ → ℕ → G → Type 0) (seen : Seen) (began now : Shard L G) : Type 0 where
@@ -40,6 +41,8 @@ module _ {L G : Type 0} (traffic : L → Traffic) (end : L → LinkEnd) where
         → HasCause traffic holds (node_state began) (node_state now)
     pub held_up : InStanding traffic (node_state began) → seen.moved ≡ false
         → IsIdle traffic holds (node_state began) (node_state now)
+    pub goes : Goes traffic (node_state began) (node_state now)
+    pub quiet : seen.moved ≡ false → NonePassed traffic (node_state began) (node_state now)
 
   -- these are the steps behind the first one
   abbrev pub FollowsHome : (G → ℕ) → (G → ℕ → ℕ → G → Type 0) → Seen → Shard L G → Shard L G → Type 0

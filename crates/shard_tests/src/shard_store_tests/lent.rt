@@ -77,7 +77,7 @@ impl<'f> Trial<'f> {
 
     // A block of so many bytes, with a ticket for requests. None where no ticket is idle, or where its evictions may have no room in
     // the journal.
-    fn lend(&mut self, size: u32) -> Option<ForeignBlock<'f>> {
+    pub(super) fn lend(&mut self, size: u32) -> Option<ForeignBlock<'f>> {
         if size == 0 || size > GREATEST_BLOCK {
             return None;
         }
@@ -142,7 +142,7 @@ impl<'f> Trial<'f> {
     }
 
     // Takes back all blocks. Answers how many came home.
-    fn take_back(&mut self, blocks: Vec<ForeignBlock<'f>>) -> u32 {
+    pub(super) fn take_back(&mut self, blocks: Vec<ForeignBlock<'f>>) -> u32 {
         if release_all(blocks) != TICKETS {
             return 0;
         }

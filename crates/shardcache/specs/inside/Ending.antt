@@ -10,6 +10,7 @@ use Rattle.run_log.specs.Runs.{RanState}
 use Rattle.shardcache.specs.declared.status.Status.{Status}
 use Rattle.shardcache.specs.declared.status.Status.TheVariants as status
 use Rattle.settings.specs.Settings.{Settings}
+use Rattle.shardcache.specs.Audits.{Unframed, Unread, audit_for, audit_refusal_text}
 use Rattle.shardcache.specs.Meanings.{Does, Meaning, Reading, ReadsAs, Refuses}
 use Rattle.shardcache.specs.TraceFor.{AtLine, Fault, refusal_text, script_refusal_text, trace_for}
 
@@ -49,6 +50,14 @@ RefusesScript bytes answered before after =
     ((number : ℕ) × (cause : ScriptCause) × (script_of bytes ≡ Err (script_refusal.AtLine number cause))
     × EndsWith answered status.Refused before after (script_refusal_text (script_refusal.AtLine number cause)))
     ⊎ ((answered ≡ status.Memory) × Appends before after [])
+
+-- the same of an input of an audit
+abbrev pub RefusesAudit : Settings → List ℕ → Status → Option (List ℕ) → Option (List ℕ) → Type 0
+RefusesAudit settings bytes answered before after =
+    ((audit_for settings bytes ≡ Err Unframed) × EndsWith answered status.Refused before after (audit_refusal_text Unframed))
+    ⊎ (((number : ℕ) × (fault : Fault) × (audit_for settings bytes ≡ Err (Unread (AtLine number fault)))
+    × EndsWith answered status.Refused before after (refusal_text (AtLine number fault)))
+    ⊎ ((answered ≡ status.Memory) × Appends before after []))
 
 -- this was taken, and accepted
 pub record Takes (r : Reading) (found : Settings) (before left : Option (List ℕ)) (input : r.Input) : Type 0 where

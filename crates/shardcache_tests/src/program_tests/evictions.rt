@@ -141,7 +141,7 @@ fn lay(alloc: Global, text: &mut Vec<u8>, part: Part<'_>) -> Result<(), AllocErr
     }
 }
 
-fn text_of(alloc: Global, parts: &[Part<'_>]) -> Result<Vec<u8>, AllocError> {
+pub fn text_of(alloc: Global, parts: &[Part<'_>]) -> Result<Vec<u8>, AllocError> {
     let mut text = Vec::new(alloc);
     for part in parts {
         lay(alloc, &mut text, *part)?;

@@ -1,5 +1,5 @@
 //! Turns of nodes over links with both ends at hand.
-ghost use Rattle.std.specs.Prelude.{◌≡◌, ◌+◌, ◌<◌, length, All, IfSome};
+ghost use Rattle.std.specs.Prelude.{◌≡◌, ◌+◌, length, All, IfSome};
 ghost use Rattle.foreign_list.specs.OwnerSeats.{IsAtRest};
 ghost use Rattle.shard_node.specs.Links.{IsUnused};
 ghost use Rattle.shard_rings.specs.Links.{memory_traffic};
@@ -16,7 +16,7 @@ pub fn turn_alone(alloc: Global, trace: &Trace, most: u32) -> Option<u64>
     requires { trace.now.shards ≡ 1 }
 {
     let (home, seat) = Foreign::new(alloc, 0).ok()?;
-    let mut node = open_node(alloc, 1, trace, &home, seat, Vec::new(alloc))?;
+    let mut node = open_node(alloc, trace, &home, seat, Vec::new(alloc))?;
     for _ in 0..most {
         if node.turn() == Turn::Done {
             break;
@@ -33,7 +33,7 @@ pub fn turn_idly(alloc: Global, trace: &Trace, turns: u32) -> Option<u64>
 {
     let (home, seat) = Foreign::new(alloc, 0).ok()?;
     let links = one_link(alloc)?;
-    let mut node = open_node(alloc, 2, trace, &home, seat, links)?;
+    let mut node = open_node(alloc, trace, &home, seat, links)?;
     let mut idle = 0u64;
     for _ in 0..turns {
         if node.turn() == Turn::Idle {
@@ -48,7 +48,6 @@ pub fn turn_idly(alloc: Global, trace: &Trace, turns: u32) -> Option<u64>
 /// too few.
 fn open_node<'f>(
     alloc: Global,
-    shards: u32,
     trace: &'f Trace,
     home: &'f Foreign,
     seat: OwnerSeat,
@@ -56,9 +55,7 @@ fn open_node<'f>(
 ) -> Option<Node<'f, MemoryLink<'f>, OpenGate>>
     requires owner { home.now.owner ≡ 0 }
     requires seat { IsAtRest home.now seat }
-    requires parsed_for { shards ≡ trace.now.shards }
-    requires some { 0 < shards }
-    requires links { length links.items + 1 ≡ shards }
+    requires links { length links.items + 1 ≡ trace.now.shards }
     requires unused { All (IsUnused memory_traffic) links.items }
 {
     if trace.regions() > 1 {
@@ -67,7 +64,7 @@ fn open_node<'f>(
     Node::open(
         alloc,
         0,
-        shards,
+        trace.shards(),
         FEWEST_PAGES,
         trace,
         home,

@@ -9,7 +9,7 @@ use Rattle.foreign_core.specs.declared.event.Event.TheVariants as event
 use Rattle.foreign_list.specs.declared.views.Holder.{Holder}
 use Rattle.foreign_list.specs.declared.views.Ledger.{Ledger}
 use Rattle.foreign_list.specs.declared.views.View.TheVariants.{Owner, Pass}
-use Rattle.foreign_list.specs.Laws.{listed_in}
+use Rattle.foreign_list.specs.Laws.{head, listed_in}
 use Rattle.foreign_list.specs.Laws as laws
 use Rattle.foreign_list.specs.inside.Words.{Table, word_at, link_to, chain}
 use Rattle.foreign_list.specs.inside.Views.{took_whole, walked, put_home}
@@ -19,7 +19,7 @@ use Rattle.foreign_list.proofs.Chains.{chain_is}
 use Rattle.foreign_list.proofs.Bounds.{list_short, walk_short}
 use Rattle.foreign_list.proofs.Once.{passes_apart}
 use Rattle.foreign_list.proofs.Rules.{owner_ledger}
-use Rattle.foreign_list.proofs.TableSteps.{looked_first, looked_again, linked, won, lost, lent, took, walked_on, came_home}
+use Rattle.foreign_list.proofs.TableSteps.{looked_first, looked_again, linked, won, lost, lent, took, took_none, saw, walked_on, came_home}
 use Rattle.foreign_list.proofs.law.law_of_the_list.Goals as goal
 
 -- the chain from the head, as the words give it
@@ -50,6 +50,14 @@ each_step = record {
       (owner_ledger s k d at)
       (λ none_left no_hand. subst (λ (ts : List ℕ). Led s k event.TakeWhole (stepped s 0 0 0 c (Owner (took_whole ts k.ledger)) keeps)) (sym (on_list s k))
       (took s k none_left no_hand)) empty free;
+  take_none = λ s c d at empty free none k. subst
+      (λ (b : Ledger). b.walk ≡ [] → b.hand ≡ None → Led s k event.TakeWhole (stepped s 0 (head s) 0 c (Owner (took_whole (listed_in s) b)) keeps))
+      (owner_ledger s k d at)
+      (λ none_left no_hand. subst (λ (ts : List ℕ). Led s k event.TakeWhole (stepped s 0 (head s) 0 c (Owner (took_whole ts k.ledger)) keeps)) (sym (on_list s k))
+      (took_none s k none_left no_hand none)) empty free;
+  see = λ s c d at other k. subst
+      (λ (b : Ledger). (k' : IsConsistent (stepped s 0 (head s) 0 c (Owner b) keeps)) × (k'.history.tickets ≡ k.history.tickets))
+      (owner_ledger s k d at) (saw s k);
   walk = λ s c d t left piece at first free k. subst
       (λ (b : Ledger). b.walk ≡ t ∷ left → b.hand ≡ None
       → (k' : IsConsistent (stepped s (suc t) (word_at s.words (suc t)) 0 c (Owner (walked t left b)) (takes t (Some piece)))) × (k'.history.tickets ≡ k.history.tickets))

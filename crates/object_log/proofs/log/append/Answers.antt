@@ -1,25 +1,9 @@
-use Rattle.std.proofs.Common.{◌≡◌, length, ◌∙◌}
-use Rattle.object_log.proofs.Appending.{objects-added, IsSegment-added, content-zero, front-kept}
+use Rattle.std.proofs.Common.{◌≡◌, ◌-◌, replicate, ap, ◌∙◌, arith}
+use Rattle.object_log.specs.Contents.{padded}
 use Rattle.object_log.proofs.log.append.Goals as goal
 
-pub returns-clause-added : goal.returns-clause-added
-returns-clause-added c =
-    let a = c.args in let r = c.requires in
-    objects-added a.segment.now c.write_object.new.segment c.write_end.new.segment a.used a.kind a.size r.segment r.fits r.size r.kind c.write_object.ensures c.write_end.ensures.below r.objects
-
-pub returns-clause-segment : goal.returns-clause-segment
-returns-clause-segment c =
-    let a = c.args in let r = c.requires in
-    let long : length c.write_end.new.segment ≡ 131072 = c.write_end.auto.segment ∙ c.write_object.auto.segment ∙ r.segment in
-    IsSegment-added a.segment.now c.write_object.new.segment c.write_end.new.segment a.used a.kind a.size r.segment r.fits r.size r.kind c.write_object.ensures c.write_end.ensures.below r.objects long
-    c.write_end.ensures.end
+pub append_with-requires-clause-content : goal.append_with-requires-clause-content
+append_with-requires-clause-content c = let none = c.zeros.ensures.length in omega (arith, none, c.requires.size.0)
 
 pub returns-clause-content : goal.returns-clause-content
-returns-clause-content c =
-    let a = c.args in let r = c.requires in
-    content-zero a.segment.now c.write_object.new.segment c.write_end.new.segment a.used a.kind a.size r.segment r.fits r.size r.kind c.write_object.ensures c.write_end.ensures.below
-
-pub returns-clause-below : goal.returns-clause-below
-returns-clause-below c =
-    let a = c.args in let r = c.requires in
-    front-kept a.segment.now c.write_object.new.segment c.write_end.new.segment a.used a.kind a.size r.segment r.fits r.size r.kind c.write_object.ensures c.write_end.ensures.below
+returns-clause-content c = c.append_with.ensures.content ∙ ap (padded (c.args.size - 8)) c.zeros.ensures.bytes ∙ ap (λ n. replicate n 0) (omega arith)

@@ -20,4 +20,4 @@ returns-in-Keys g c = λ reply spells.
 pub returns-in_default : goal.returns-in_default
 returns-in_default g c = λ reply spells.
     let word = rw c.word.ensures at c.in_ok-put.ensures in
-    subst (Writes _ _ _) (words_spelled c.args.kind c.args.body.now reply spells c.in_default.not-Keys) (Writes-then word c.put-in_default.ensures)
+    subst (Writes _ _ _) (words_spelled c.args.kind c.args.body.now reply spells c.in_default.not-Keys) (Writes-then word c.hand_over.ensures)

@@ -1,5 +1,5 @@
 -- What the mode asks was done.
-use Rattle.settings.specs.declared.settings.mode.Mode.TheVariants.{Run, Sim, Gen, Dirty, Index, Values}
+use Rattle.settings.specs.declared.settings.mode.Mode.TheVariants.{Run, Sim, Gen, Audit, Dirty, Index, Values}
 use Rattle.shardcache.proofs.TableRows.{in_mode}
 use Rattle.shardcache.proofs.modes.run_mode.Goals as goal
 
@@ -11,6 +11,9 @@ returns-in-Sim-clause-ending g c = in_mode _ Sim _ _ _ _ _ _ _ _ c.in-Sim.is c.r
 
 pub returns-in-Gen-clause-ending : goal.returns-in-Gen-clause-ending
 returns-in-Gen-clause-ending g c = in_mode _ Gen _ _ _ _ _ _ _ _ c.in-Gen.is (c.summarize_made.ensures.ending _ _ _)
+
+pub returns-in-Audit-clause-ending : goal.returns-in-Audit-clause-ending
+returns-in-Audit-clause-ending g c = in_mode _ Audit _ _ _ _ _ _ _ _ c.in-Audit.is c.audit_report.ensures.ending
 
 pub returns-in-Dirty-clause-ending : goal.returns-in-Dirty-clause-ending
 returns-in-Dirty-clause-ending g c = in_mode _ Dirty _ _ _ _ _ _ _ _ c.in-Dirty.is c.flush_trace.ensures.ending

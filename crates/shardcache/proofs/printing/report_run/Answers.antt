@@ -5,12 +5,12 @@ use Rattle.cache_model.specs.Report.{report}
 use Rattle.run_log.specs.Runs.{IsFinished, journals_in}
 use Rattle.shardcache.specs.inside.Ending.{EndsOutput}
 use Rattle.shardcache.proofs.Reported.{ReportLaws, shows_report}
-use Rattle.cache_lemmas.proofs.Laws.{replies_hold_what_was_put-answers, a_report_has_its_lines-journals, answers_are_read_by_command-count}
+use Rattle.cache_lemmas.proofs.Laws.{a_report_has_its_lines-journals, answers_are_read_by_command-count}
 use Rattle.shardcache.proofs.printing.report_run.Goals as goal
 
 pub returns-clause-written : goal.returns-clause-written
 returns-clause-written g c =
-    let laws : ReportLaws = record { holds = replies_hold_what_was_put-answers; lines = a_report_has_its_lines-journals; count = answers_are_read_by_command-count } in
+    let laws : ReportLaws = record { lines = a_report_has_its_lines-journals; count = answers_are_read_by_command-count } in
     let asked = c.args.asked.now in
     let trace = trace_in asked.trace.now in
     let journals = journals_in c.args.ran.now.journals in

@@ -1,13 +1,14 @@
-use Rattle.std.proofs.Common.{◌≡◌, ◌+◌, ◌<◌, ◌≤◌, length, sym, ap, ◌∙◌, subst, arith}
+use Rattle.std.proofs.Common.{◌≡◌, ◌+◌, ◌-◌, ◌<◌, ◌≤◌, length, sym, ap, ◌∙◌, subst, arith}
 use Rattle.std.specs.Prelude.{Some, slice_index, slice_set}
 use Rattle.std.specs.List.{sum}
 use Rattle.std.proofs.lemmas.List.{length-map}
 use Rattle.layout.specs.Sizes.{segment}
+use Rattle.object_log.specs.Contents.{bytes_of, padded}
 use Rattle.regions.specs.Segments.{RegionState}
 use Rattle.regions.specs.inside.Consistent.{GroupFields, states}
 use Rattle.regions.specs.Shapes.{shape, active_in, active_of}
 use Rattle.regions.specs.Counts.{used_counts, live_counts, used_in, live_in, live_in_each, plus}
-use Rattle.regions.specs.Contents.{zeros, ChangesIn, ChangesAt}
+use Rattle.regions.specs.Contents.{holding, ChangesIn, ChangesAt}
 use Rattle.regions.proofs.Updates.{live-is, slots-same, used-plus, live-plus}
 use Rattle.regions.proofs.Regions.{Fields, active-within, group-in, group-there, group-is, found-there, placed-in, changes-set}
 use Rattle.regions.proofs.Groups.{states-kept}
@@ -56,14 +57,14 @@ returns-clause-added c =
     let is = found-there slots n c.index_mut.result.now c.segment_mut.result.now inside c.index_mut.ensures.value c.segment_mut.ensures.value in
     let r : RegionState = record { most = i.most; groups = states i.groups.items; segments = slots } in
     let of : c.segment_mut.result.now.group ≡ Some g = sym (group-is i.most i.groups.items i.held i.free slots c.self.invariant.0 n c.segment_mut.result.now c.segment_mut.result.now is) ∙ (c.self.invariant.0).active g n now in
-    let new = zeros (Some g) c.args.kind c.args.size in
+    let ws = padded (c.args.size - 8) (bytes_of c.args.content) in let new = holding (Some g) c.args.kind ws in
     let f = c.index_mut-2.result.now in let at = group-there i.groups.items g f w c.index_mut-2.ensures.value in
     let same = states-kept i.groups.items g f c.gain.new.self at w (ap (λ (x : GroupFields). x.state) c.gain.ensures) in
     subst (λ q. ChangesAt (record { segment = n; at = c.append-at.result }) (Some new) q (record { most = i.most; groups = states (slice_set i.groups.items g c.gain.new.self); segments = slice_set slots n (Some c.append-at.new.self) })) c.self.view_is
     (subst (λ gs. ChangesAt (record { segment = n; at = c.append-at.result }) (Some new) r (record { most = i.most; groups = gs; segments = slice_set slots n (Some c.append-at.new.self) })) (sym same)
     (changes-set r n c.append-at.result (Some new) (Some c.append-at.new.self) inside
     (subst (λ s. ChangesIn c.append-at.result (Some new) s (Some c.append-at.new.self)) (sym is)
-    (subst (λ o. ChangesIn c.append-at.result (Some (zeros o c.args.kind c.args.size)) (Some c.segment_mut.result.now) (Some c.append-at.new.self)) of e.added))))
+    (subst (λ o. ChangesIn c.append-at.result (Some (holding o c.args.kind ws)) (Some c.segment_mut.result.now) (Some c.append-at.new.self)) of e.added))))
 
 pub returns-clause-used : goal.returns-clause-used
 returns-clause-used c =

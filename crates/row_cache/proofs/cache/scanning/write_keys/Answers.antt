@@ -1,4 +1,4 @@
-use Rattle.std.proofs.Common.{◌≡◌, ◌≢◌, List, ℕ, ◌-◌, ◌++◌, length, take, drop, inl, inr, sym, ap, ◌∙◌, arith}
+use Rattle.std.proofs.Common.{◌≢◌, List, ℕ, ◌-◌, ◌++◌, length, take, drop, inl, inr, sym, ap, ◌∙◌, arith}
 use Rattle.rows.specs.Key.{Key}
 use Rattle.rows.specs.Spelled.{key_field}
 use Rattle.regions.specs.Contents.{live_at}

@@ -1,4 +1,4 @@
-use Rattle.std.proofs.Common.{◌+◌, map, refl, subst, ◌∙◌, arith}
+use Rattle.std.proofs.Common.{map, refl, subst, ◌∙◌, arith}
 use Rattle.rows.specs.Row.{Row}
 use Rattle.regions.specs.Contents.{live_at}
 use Rattle.row_cache.specs.inside.Tables.{AddsRow, IsRowOf}

@@ -1,4 +1,4 @@
-use Rattle.std.proofs.Common.{◌≡◌, length, rules, arith, ap, sym, ◌∙◌}
+use Rattle.std.proofs.Common.{◌≡◌, length, rules, arith, ap, sym, true≢false, ◌∙◌}
 use Rattle.std.proofs.lemmas.List.{length-map}
 use Rattle.shard_node.specs.Nodes.{others}
 use Rattle.shard_node.proofs.Standing.SeenPeers.{of-peers}
@@ -14,6 +14,7 @@ invariant_of-result g c =
     record {
       consistent = c.in-Ok-open.ensures.consistent;
       idle = λ new. c.in-Ok-open.ensures.lent;
+      calm = λ is. absurd (true≢false (sym is));
       none = c.in-Ok.ensures.items;
       room = omega (arith, many, links, room, asked);
     }

@@ -17,6 +17,7 @@ invariant_of-self g c =
     record {
       consistent = c.turn.ensures.consistent;
       idle = λ none. absurd (omega (arith, none, turns));
+      calm = c.turn.ensures.calm;
       none = c.self.invariant.none;
       room = omega (arith, many, room);
     }

@@ -3,7 +3,7 @@ use Rattle.std.proofs.Common.{inl, inr, true≢false, ◌≡◌, ◌<◌, ◌↔
 use Rattle.shard_rings.specs.declared.link.Lane.{Lane}
 use Rattle.shard_rings.specs.declared.link.Lane.TheVariants.{Replies, Requests}
 use Rattle.shard_node.specs.Nodes.{NodeState}
-use Rattle.shard_node.specs.inside.Moves.{BeginsNone, Goes, ReceivesNone, ReceivesOneStray, Tells, packets_of}
+use Rattle.shard_node.specs.inside.Moves.{BeginsNone, Goes, NonePassed, ReceivesNone, ReceivesOneStray, Tells, packets_of}
 use Rattle.shard_node.specs.inside.Shards.{node_state}
 use Rattle.shard_node.proofs.Turning.Joins.{steps_join}
 use Rattle.shard_node.proofs.Turning.TellsStrays.{none_join, none_then_one, one_then_none, task_of, task_back, told_between, told_first, came_back}
@@ -12,7 +12,6 @@ use Rattle.shard_node.proofs.Turning.ThroughGate.{none_then_none, through_betwee
 use Rattle.shard_node.proofs.Turning.TurnMoves.{caused}
 use Rattle.shard_node.proofs.Turning.Frees.{not_less}
 use Rattle.shard_node.proofs.Turning.IdleTurn.{idle, not_rose, not_true, or_none, releases_none}
-use Rattle.shard_node.proofs.Turning.StepGoes.{packets_rise}
 use Rattle.shard_node.proofs.shard.Shard.make_later_steps.Goals as goal
 
 pub returns : goal.returns
@@ -60,6 +59,19 @@ returns g c began home =
     chain (node_state e) (node_state f)
     (chain (node_state d) (node_state e) (chain y (node_state d) (chain x y home_none c.release_held.ensures.own) c.send_replies.ensures.own) c.take_replies.ensures.own)
     c.serve.ensures.own in
+    let quiet : c.note-4.new.self.moved ≡ false → NonePassed traffic (node_state a) (node_state h) = λ unmet.
+    let two = or_none (c.serve.new.seen.moved || c.go_on.result) c.say_byes.result (sym last ∙ unmet) in
+    let three = or_none c.serve.new.seen.moved c.go_on.result two.0 in
+    let four = or_none (false || c.release_held.result) c.send_replies.result (sym seen-2 ∙ not_true c.note-2.new.self.moved (λ is. true≢false (sym (c.serve.ensures.moved.1 (inl (c.take_replies.ensures.moved.1 (inl is)))) ∙ three.0))) in
+    let same_packets : packets_of traffic x ≡ packets_of traffic (node_state a) = ap (λ (n : NodeState g.row.L.Denot g.row.G.Denot). packets_of traffic n) home.same in
+    let released = releases_none traffic x y c.release_held.ensures.goes (λ k d below. ((c.release_held.ensures.raced four.0).peers.each k d below).0) in
+    let q2 = not_less c.send_replies.result _ _ c.send_replies.ensures.sent four.1 in
+    let q3 = not_rose c.take_replies.new.seen.moved _ _ (λ so. c.take_replies.ensures.moved.1 (inr so))
+    (not_true c.take_replies.new.seen.moved (λ is. true≢false (sym (c.serve.ensures.moved.1 (inl is)) ∙ three.0))) in
+    let q4 = not_rose c.serve.new.seen.moved _ _ (λ so. c.serve.ensures.moved.1 (inr so)) three.0 in
+    let q5 = not_rose c.go_on.result _ _ (λ so. c.go_on.ensures.moved.1 (inl so)) three.1 in
+    let q6 = not_less c.say_byes.result _ _ c.say_byes.ensures.sent two.1 in
+    omega (arith, same_packets, released, q2, q3, q4, q5, q6) in
     record {
       step = join c.go_on.new.self h (join f c.go_on.new.self to_f c.go_on.ensures.step) c.say_byes.ensures.step;
       gate = through_between g.G.Gate.lets end (node_state a) (node_state f) z (node_state h) to_f.same none_begun c.go_on.ensures.gate c.say_byes.ensures.own;
@@ -112,16 +124,7 @@ returns g c began home =
           let two = or_none (c.serve.new.seen.moved || c.go_on.result) c.say_byes.result (sym last ∙ unmet) in
           let three = or_none c.serve.new.seen.moved c.go_on.result two.0 in
           let four = or_none (false || c.release_held.result) c.send_replies.result (sym seen-2 ∙ not_true c.note-2.new.self.moved (λ is. true≢false (sym (c.serve.ensures.moved.1 (inl (c.take_replies.ensures.moved.1 (inl is)))) ∙ three.0))) in
-          let p0 = packets_rise traffic (node_state a) x home.goes in
-          let same_packets : packets_of traffic x ≡ packets_of traffic (node_state a) = ap (λ (n : NodeState g.row.L.Denot g.row.G.Denot). packets_of traffic n) home.same in
-          let released = releases_none traffic x y c.release_held.ensures.goes (λ k d below. ((c.release_held.ensures.raced four.0).peers.each k d below).0) in
-          let q2 = not_less c.send_replies.result _ _ c.send_replies.ensures.sent four.1 in
-          let q3 = not_rose c.take_replies.new.seen.moved _ _ (λ so. c.take_replies.ensures.moved.1 (inr so))
-          (not_true c.take_replies.new.seen.moved (λ is. true≢false (sym (c.serve.ensures.moved.1 (inl is)) ∙ three.0))) in
-          let q4 = not_rose c.serve.new.seen.moved _ _ (λ so. c.serve.ensures.moved.1 (inr so)) three.0 in
-          let q5 = not_rose c.go_on.result _ _ (λ so. c.go_on.ensures.moved.1 (inl so)) three.1 in
           let d5 = not_rose c.go_on.result _ _ (λ so. c.go_on.ensures.moved.1 (inr so)) three.1 in
-          let q6 = not_less c.say_byes.result _ _ c.say_byes.ensures.sent two.1 in
           idle traffic holds (node_state a) x y (node_state d) (node_state e) (node_state f) z (node_state h)
           (record {
             home = home.goes;
@@ -140,10 +143,11 @@ returns g c began home =
             done = d5;
             byes = c.say_byes.ensures.goes;
             tells = c.say_byes.ensures.held_up;
-            packets = omega (arith, same_packets, released, q2, q3, q4, q5, q6);
+            packets = quiet unmet;
             backs = same_back;
             task = task_of traffic holds end (node_state a) (node_state f) to_f.same;
             stands = stands;
             stands_later = to_f.standing stands;
           });
+      quiet = quiet;
     }

@@ -24,4 +24,6 @@ returns g c began was sees =
           let none = or_none old.moved back (sym c.note.ensures.moved ∙ unmet) in
           let same = same-other c.back.result c.args.back none.1 in
           sees.held_up stands none.0 (omega (arith, same, was, now));
+      goes = sees.goes;
+      quiet = λ unmet. sees.quiet (or_none old.moved back (sym c.note.ensures.moved ∙ unmet)).0;
     }

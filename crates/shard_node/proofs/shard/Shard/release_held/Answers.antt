@@ -1,17 +1,47 @@
-use Rattle.std.proofs.Common.{◌≤◌, ◌≡◌, ◌<◌, arith, refl, length, subst, sym, ◌∙◌, ap}
+use Rattle.std.proofs.Common.{◌≤◌, ◌≡◌, ◌<◌, arith, refl, length, true≢false, subst, sym, ◌∙◌, ap}
 use Rattle.shard_rings.specs.Lanes.{on}
 use Rattle.std.specs.Vec.{with_items}
 use Rattle.std.proofs.lemmas.List.{with_items_is}
 use Rattle.shard_parts.specs.Peers.{Each, HoldsOther, held_by_all}
 use Rattle.part_lemmas.specs.Releases.{Releases}
 use Rattle.shard_parts.specs.Peers.{peer_state}
-use Rattle.shard_node.proofs.Standing.PeerPairs.{seen_pairs}
+use Rattle.shard_node.proofs.Standing.PeerPairs.{pairs_same, seen_pairs}
+use Rattle.shard_node.proofs.Turning.Calms.{none_to_release}
+use Rattle.shard_node.proofs.Turning.Joins.{no_step}
 use Rattle.shard_node.proofs.Turning.Steps.{releases}
 use Rattle.shard_parts.specs.Peers.{TriesHeld}
 use Rattle.shard_node.specs.inside.Shards.{node_state}
 use Rattle.shard_node.proofs.Turning.Frees.{frees, not_less, races}
-use Rattle.shard_node.proofs.Turning.PeerGoes.{released_same, releases_goes}
+use Rattle.shard_node.proofs.Turning.PeerGoes.{goes_same, released_same, releases_goes}
+use Rattle.shard_node.proofs.Turning.StepGoes.{no_more}
 use Rattle.shard_node.proofs.shard.Shard.release_held.Goals as goal
+
+pub returns-then-calm : goal.returns-then-calm
+returns-then-calm g c =
+    let traffic = g.L.Link.traffic in
+    let self = c.args.self.now in
+    record {
+      step = no_step traffic g.L.Link.end self c.requires.consistent;
+      received = λ lane. pairs_same _ _ (λ k a. (refl, refl));
+      goes = record {
+        peers = pairs_same _ _ (λ k a. goes_same traffic a);
+        done = omega arith;
+        backs = omega arith;
+        looks = omega arith;
+        tally = no_more self.tally;
+      };
+      own = (refl, refl);
+      released = λ so. absurd (true≢false (sym so));
+      raced = λ unmet. record {
+        request = refl;
+        begun = refl;
+        gate = refl;
+        store = refl;
+        done = refl;
+        peers = none_to_release traffic g.G.Gate.holds (node_state self) (c.requires.calm c.if-calm.true);
+      };
+      calm = c.requires.calm;
+    }
 
 pub returns : goal.returns
 returns g c =
@@ -63,4 +93,5 @@ returns g c =
             let raced = races traffic g.G.Gate.holds c.args.self.now.peers.items items (ap length is ∙ (c.release_all.auto.peers ∙ ap length old)) tried many k d below in
             (released_same traffic _ _ (tried k d below).same, raced.0, raced.1));
       };
+      calm = λ is. absurd (true≢false (sym is ∙ c.if-calm.false));
     }

@@ -1,17 +1,46 @@
-use Rattle.std.proofs.Common.{refl, ◌≡◌, ◌<◌, ◌↔◌, IsTrue, arith, length, subst, sym, ◌∙◌, ap}
+use Rattle.std.proofs.Common.{refl, ◌≡◌, ◌<◌, ◌↔◌, IsTrue, arith, length, true≢false, subst, sym, ◌∙◌, ap}
 use Rattle.shard_rings.specs.Lanes.{on}
 use Rattle.std.specs.Vec.{with_items}
 use Rattle.std.proofs.lemmas.List.{with_items_is}
 use Rattle.shard_parts.specs.Peers.{Each, SendsReply}
 use Rattle.shard_parts.specs.Peers.{peer_state}
-use Rattle.shard_node.proofs.Standing.PeerPairs.{seen_pairs}
+use Rattle.shard_node.specs.inside.Shards.{node_state}
+use Rattle.shard_node.proofs.Standing.PeerPairs.{pairs_same, seen_pairs}
+use Rattle.shard_node.proofs.Turning.Calms.{none_to_send}
+use Rattle.shard_node.proofs.Turning.Joins.{no_step}
 use Rattle.shard_node.proofs.Replies.Sends.{keeps_replies}
 use Rattle.shard_node.proofs.Turning.Steps.{sends_replies}
 use Rattle.shard_node.specs.inside.Moves.{packets_by_all}
-use Rattle.shard_node.proofs.Turning.PeerGoes.{reply_goes}
+use Rattle.shard_node.proofs.Turning.PeerGoes.{goes_same, reply_goes}
 use Rattle.shard_node.proofs.Turning.HeldUps.{reply_waits}
 use Rattle.shard_node.proofs.Turning.StepGoes.{all_none, all_so, no_more}
 use Rattle.shard_node.proofs.shard.Shard.send_replies.Goals as goal
+
+pub returns-then-calm : goal.returns-then-calm
+returns-then-calm g c =
+    let traffic = g.L.Link.traffic in
+    let self = c.args.self.now in
+    record {
+      step = no_step traffic g.L.Link.end self c.requires.consistent;
+      received = λ lane. pairs_same _ _ (λ k a. (refl, refl));
+      goes = record {
+        peers = pairs_same _ _ (λ k a. goes_same traffic a);
+        done = omega arith;
+        backs = omega arith;
+        looks = omega arith;
+        tally = no_more self.tally;
+      };
+      own = (refl, refl);
+      sent = (λ is. absurd (true≢false (sym is)), λ less. absurd (omega (arith, less)));
+      held_up = λ quiet. record {
+        request = refl;
+        begun = refl;
+        gate = refl;
+        store = refl;
+        done = refl;
+        peers = none_to_send traffic (node_state self) (c.requires.calm c.if-calm.true);
+      };
+    }
 
 pub returns : goal.returns
 returns g c =

@@ -1,10 +1,19 @@
 use Rattle.std.proofs.Common.{refl, sym, subst, ◌∙◌, true≢false}
 use Rattle.shard_node.specs.Turns.{IsAnswer}
 use Rattle.shard_node.specs.inside.Shards.{node_state}
+use Rattle.shard_node.proofs.Turning.Calms.{stays_calm}
 use Rattle.shard_node.proofs.Turning.Steps.{counted_done, counted_stands, turn_counted}
 use Rattle.shard_node.proofs.Turning.ThroughGate.{none_through, turns_through}
 use Rattle.shard_node.proofs.Turning.TurnTold.{answers, never_done}
 use Rattle.shard_node.proofs.shard.Shard.turn.Goals as goal
+
+-- a turn more that is counted says nothing of what waits
+pub note_waiting-requires : goal.note_waiting-requires
+note_waiting-requires g c κs = (
+  (refl, tt),
+  λ unmet. stays_calm g.L.Link.traffic c.args.calm.now (node_state (record c.args.self.now { turns = c.saturating_add-self.result })) (node_state c.make_steps-seen.new.self)
+      c.make_steps-seen.ensures.goes (c.make_steps-seen.ensures.quiet unmet) c.requires.calm,
+)
 
 pub returns-then-is_done : goal.returns-then-is_done
 returns-then-is_done g c =
@@ -13,6 +22,7 @@ returns-then-is_done g c =
     let turns = c.saturating_add-self.result in
     record {
       consistent = turn_counted traffic g.L.Link.end shard turns c.requires.consistent;
+      calm = c.requires.calm;
       standing = counted_stands traffic g.L.Link.end shard turns;
       same = record { shard = refl; shards = refl; pages = refl; trace = refl; home = refl; ends = refl };
       turns = c.saturating_add-self.ensures;
@@ -83,3 +93,9 @@ returns-else-is_done-2-clause-answer g c stands =
     (answers traffic holds seen.result.stray seen.result.moved (node_state shard) c.saturating_add-self.result new
     (λ d. absurd (true≢false (sym ((c.is_done-2.ensures later).1 d) ∙ c.if-is_done-2.false)))
     (seen.ensures.told counted) (seen.ensures.caused counted) (seen.ensures.held_up counted))
+
+pub returns-then-is_done-2-clause-calm : goal.returns-then-is_done-2-clause-calm
+returns-then-is_done-2-clause-calm g c = c.note_waiting.ensures
+
+pub returns-else-is_done-2-clause-calm : goal.returns-else-is_done-2-clause-calm
+returns-else-is_done-2-clause-calm g c = c.note_waiting.ensures

@@ -1,0 +1,2 @@
+-- What only the private parts cite.
+pub mod Kept

@@ -1,0 +1,4 @@
+-- What only the private parts cite.
+pub mod Compared
+pub mod Spells
+pub mod Walks

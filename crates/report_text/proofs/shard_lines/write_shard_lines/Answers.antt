@@ -1,0 +1,8 @@
+use Rattle.std.proofs.Common.{rules}
+use Rattle.text_lemmas.proofs.Sent.{sent}
+use Rattle.report_text.proofs.shard_lines.write_shard_lines.Goals as goal
+
+pub returns : goal.returns
+returns g c =
+    sent g.K.Sink.written g.K.Sink.faults _ _ c.into_sink.result.now _ _ _ c.finish-written.result c.new-writer.result c.finish-written.new.writer c.new-writer.ensures c.into_sink.ensures (search rules)
+    c.finish-written.ensures.empty c.finish-written.ensures.wrote
