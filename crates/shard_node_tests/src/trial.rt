@@ -143,7 +143,7 @@ impl<'f> Trial<'f> {
         }
         let store = self.node.finish(ran).store;
         let is_whole = store.tickets_out() == 0 && store.lent() == store.back();
-        drop(store);
+        let _seat = store.finish();
         is_whole
     }
 }
