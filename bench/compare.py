@@ -2,6 +2,7 @@
 """Times the program beside the unproved one, and prints a table.
 
     bench/compare.py [-r ROUNDS] [--small-pages] [--tables] [CASE ...]
+    bench/compare.py [-r ROUNDS] --audit
     bench/compare.py [-r ROUNDS] --write
 
 It builds both programs, the unproved one (bench/unproved) by cargo, and makes the traces where they are missing, in
@@ -17,8 +18,10 @@ With --tables no unproved program runs: the program itself runs each trace in ve
 and in version 1. The ratios are those to version 1, and behind them stand, of both versions, how many gets found a row
 and how many rows went, and how many commands were answered alike.
 
-With --write both tables are made and put into docs/SPEED.md, between the marks that stand there. No other work should
-be on the machine.
+With --audit the program's audits of its own reports are timed beside the runs that wrote them.
+
+With --write all three tables are made and put into docs/SPEED.md, between the marks that stand there. No other work
+should be on the machine.
 """
 import datetime
 import filecmp
@@ -27,7 +30,7 @@ import re
 import sys
 
 from cache_model import bound_of
-from timing import LARGE_PAGES, OUT, TOP, in_turn, least, program, run, trace_of, unproved
+from timing import LARGE_PAGES, OUT, in_turn, least, program, put_between, run, trace_of, unproved
 
 CASES = ["gen:1:8192", "small:1:8192", "manykeys:1:16384", "evict:1:8192", "churn:1:8192", "paths:1:32768", "scans:1:8192"]
 CASES += ["gen:2:8192", "small:2:8192", "manykeys:2:8192", "evict:2:4096", "paths:2:16384"]
@@ -48,7 +51,11 @@ TABLES_HEAD = (
     "| Trace | Shards | Time | Ratio | Clock | Ratio | Memory | Ratio "
     "| Gets that found a row | Rows that went | Answered alike |"
 )
-DOCUMENT = f"{TOP}/docs/SPEED.md"
+# What is audited: a trace, the part of it that fits one input with its report, and what an audit is to take at most.
+AUDITS = [("gen", 0.8, "3 times the run"), ("short", 1, "10 s")]
+AUDITS_HEAD = "| Trace | Part | Trace and report | Run | Audit | Ratio | Aim |"
+MOST_BYTES = 67_108_864
+
 MARKS = ("<!-- written by bench/compare.py --write -->\n", "<!-- so far -->\n")
 
 
@@ -122,6 +129,32 @@ def compare(case, rounds, programs):
     )
 
 
+def compare_audit(case, rounds, path):
+    """The line of an audit: the program on a trace with its own report, beside the run that wrote the report."""
+    name, scale, aim = case
+    trace, report, framed = trace_of(name, scale=scale), f"{OUT}/audited.report", f"{OUT}/audited"
+    run([path, "run"], trace, report)
+    with open(framed, "wb") as file:
+        file.write(b"%d\n" % os.path.getsize(trace))
+        for part in (trace, report):
+            with open(part, "rb") as text:
+                file.write(text.read())
+    if os.path.getsize(framed) > MOST_BYTES:
+        sys.exit(f"{name}: trace and report are too long for one input")
+    verdict = f"{OUT}/audited.verdict"
+    run([path, "audit"], framed, verdict)
+    with open(verdict, "rb") as file:
+        if file.read() != b"legal\n":
+            sys.exit(f"{name}: the audit does not say that its report is legal")
+    spent = zip(*[(run([path, "run"], trace), run([path, "audit"], framed)) for _ in range(rounds)])
+    ran, audited = (least(own) for own in spent)
+    mebibytes = os.path.getsize(framed) / 2 ** 20
+    return (
+        f"| `{name}` | {scale} | {mebibytes:.0f} MiB | {ran.processor:.2f} s | {audited.processor:.2f} s "
+        f"| {ratio(audited.processor, ran.processor)} | {aim} |"
+    )
+
+
 def table(head, cases, line_of):
     """A table with a line for each case, printed line by line as it comes."""
     lines = []
@@ -129,15 +162,6 @@ def table(head, cases, line_of):
         print(line, flush=True)
         lines.append(f"{line}\n")
     return "".join(lines)
-
-
-def write(text):
-    """Puts a text between the marks of the document."""
-    with open(DOCUMENT, encoding="utf-8") as file:
-        front, rest = file.read().split(MARKS[0])
-    behind = rest.split(MARKS[1])[1]
-    with open(DOCUMENT, "w", encoding="utf-8") as file:
-        file.write(f"{front}{MARKS[0]}\n{text}\n{MARKS[1]}{behind}")
 
 
 def main():
@@ -148,14 +172,15 @@ def main():
     words = [] if writes else words
     small_pages = words[:1] == ["--small-pages"]
     words = words[1:] if small_pages else words
+    audits = words == ["--audit"]
     tables = words[:1] == ["--tables"]
-    cases = words[1:] if tables else words
+    cases = words[1:] if tables or audits else words
     if any(not re.fullmatch(r"\w+:\d+:\d+", it) or tables and it.startswith("paths:") for it in cases):
         sys.exit(__doc__)
     os.environ["GLIBC_TUNABLES"] = "" if small_pages else LARGE_PAGES
     own = program()
     parts = [f"Least of {rounds} runs in turn, {datetime.date.today()}, {os.cpu_count()} processors.\n"]
-    if not tables:
+    if not tables and not audits:
         other = unproved()
         parts.append(table(HEAD, cases or CASES, lambda case: compare(case, rounds, [own, other])))
     if writes:
@@ -164,7 +189,12 @@ def main():
         in_tables = cases or [it for it in CASES if not it.startswith("paths:")]
         parts.append(table(TABLES_HEAD, in_tables, lambda case: compare_tables(case, rounds, own)))
     if writes:
-        write("\n".join(parts))
+        parts.append("Audits of the program's own reports, beside the runs that wrote them, with one shard:\n")
+    if audits or writes:
+        parts.append(table(AUDITS_HEAD, AUDITS, lambda case: compare_audit(case, rounds, own)))
+    if writes:
+        put_between(MARKS, "\n".join(parts))
 
 
-main()
+if __name__ == "__main__":
+    main()

@@ -89,20 +89,31 @@ def unproved():
     return f"{BENCH}/unproved/target/release/unproved"
 
 
-def trace_of(name, tables=False):
+def trace_of(name, tables=False, scale=1):
     """The file of a trace of traces.py, or of paths.py, made where it is missing. It has its name once it is whole.
 
-    One of traces.py may be made in version 2, with its keys in tables.
+    One of traces.py may be made in version 2, with its keys in tables, or cut to a part of its length.
     """
-    path = f"{OUT}/{name}.tables.trace" if tables else f"{OUT}/{name}.trace"
+    path = f"{OUT}/{name}{'.tables' * tables}{f'.{scale}' if scale != 1 else ''}.trace"
     if not os.path.exists(path):
         os.makedirs(OUT, exist_ok=True)
         # In a process of its own: what this one takes would be counted as each program's.
-        words = ["paths.py", "/usr", "/opt", "/var"] if name == "paths" else ["traces.py", name, f"{path}.new", *["--tables"] * tables]
+        made = ["traces.py", name, f"{path}.new", "--scale", str(scale), *["--tables"] * tables]
+        words = ["paths.py", "/usr", "/opt", "/var"] if name == "paths" else made
         with open(f"{path}.new", "wb") as file:
             subprocess.run([f"{BENCH}/{words[0]}", *words[1:]], stdout=file, check=True)
         os.replace(f"{path}.new", path)
     return path
+
+
+def put_between(marks, text):
+    """Puts a text between two marks of docs/SPEED.md."""
+    path = f"{TOP}/docs/SPEED.md"
+    with open(path, encoding="utf-8") as file:
+        front, rest = file.read().split(marks[0])
+    behind = rest.split(marks[1], 1)[1]
+    with open(path, "w", encoding="utf-8") as file:
+        file.write(f"{front}{marks[0]}\n{text}\n{marks[1]}{behind}")
 
 
 def allocators(words):

@@ -11,6 +11,7 @@ With --tables the same commands in version 2: the table of a key is its hash, by
     evict     10,000 puts and 40,000 gets of 20,000 keys, values of 1,000 to 12,000 bytes
     churn     900,000 commands over 1,000,000 keys, values of 20 to 100 bytes, 85 % put: small rows go by the hundred thousand
     scans     200,000 puts of keys of their own, a scan behind each of the last 60,000 (a trace may have 64,900 scans)
+    short     1,000,000 commands of four kinds over 10,000 keys, values of 1 to 8 bytes
     puts      1,000,000 puts of 500,000 keys, values of 48 bytes: about 100 bytes of memory each (with values of 100 bytes
               the trace would be too long)
     values    a script of the mode `values`: 300 values of 1 KiB to 1 MiB, and 667 reads behind each
@@ -126,6 +127,21 @@ def scans(number, scale):
             yield b"scan item:%d 1\n" % key
 
 
+def short(number, scale):
+    draw = Lcg64Xsh32(number, 10).draw
+    for i in range(1, int(1_000_000 * scale) + 1):
+        word = draw() % 100
+        key = b"k%d" % (draw() % 10_000)
+        if word < 40:
+            yield b"put %s %s\n" % (key, value(i, 1 + draw() % 8))
+        elif word < 90:
+            yield b"get %s\n" % key
+        elif word < 99:
+            yield b"erase %s\n" % key
+        else:
+            yield b"scan %s 1\n" % key
+
+
 def puts(number, scale):
     draw = Lcg64Xsh32(number, 8).draw
     for i in range(1, int(1_000_000 * scale) + 1):
@@ -143,7 +159,7 @@ def values(number, scale):
             yield b"read %d %d %d\n" % (draw() % 1_000, draw() % length, draw() % 65)
 
 
-KINDS = {"gen": gen, "small": small, "manykeys": manykeys, "evict": evict, "churn": churn, "scans": scans, "puts": puts, "values": values}
+KINDS = {"gen": gen, "small": small, "manykeys": manykeys, "evict": evict, "churn": churn, "scans": scans, "short": short, "puts": puts, "values": values}
 
 
 def in_tables(lines):
