@@ -7,8 +7,8 @@ With `--check` nothing is written, and the script fails where the page is not th
 
 Wrong bodies are crates/NAME/must-fail/*.edit, which the gate tries, and crates/NAME/nightly/*.edit, which bench/nightly.sh tries. Each
 belongs to the function in which its `old:` text stands; where that is a constant or an import, to those of the file that name it. A
-function is public where lib.rt re-exports it or its type; else it is a helper. One that takes nothing, or `&self` alone, and answers
-nothing is a law: all that it has are its clauses.
+function is public where lib.rt re-exports it or its type, or C calls it; else it is a helper. One that takes nothing, or `&self` alone,
+and answers nothing is a law: all that it has are its clauses.
 """
 import dataclasses
 import os
@@ -24,7 +24,7 @@ Written by `bench/edits.py`, by crate and by function: each row says in words wh
 by the gate or at night. A helper is named with its file, and its wrong bodies count for no public call, though public calls use it.
 Public calls without a wrong body of their own stand below their crate's table, but for laws, which change and answer nothing.
 """
-FUNCTION = re.compile(r"( *)(pub |pub\(\w+\) )?(?:const )?(?:unsafe )?fn (\w+)")
+FUNCTION = re.compile(r'( *)(pub |pub\(\w+\) )?(?:const )?(?:unsafe )?(extern "C" )?fn (\w+)')
 CONTAINER = re.compile(r"(?:pub(?:\(\w+\))? )?(?:unsafe )?(impl|trait)\b")
 
 
@@ -112,10 +112,10 @@ def functions_of(folder, file, exported):
             continue
         last, has_body = end_of(lines, at, told[1])
         seen = told[2] == "pub " or (owner and of_trait)
-        module = exported.get(owner or told[3], "")
-        public = seen and module != "" and (owner or module is None or f"src/{module.replace('::', '/')}.rt" == file)
+        module = exported.get(owner or told[4], "")
+        public = told[3] or seen and module != "" and (owner or module is None or f"src/{module.replace('::', '/')}.rt" == file)
         is_law = re.search(r"\((&self)?\)( \{\}?)?$", line)
-        found.append(Function(f"{owner}::{told[3]}" if owner else told[3], file, at, last, bool(public), has_body and not is_law))
+        found.append(Function(f"{owner}::{told[4]}" if owner else told[4], file, at, last, bool(public), has_body and not is_law))
     return found
 
 
@@ -205,7 +205,7 @@ def sums(crates):
 
 
 def page():
-    names = re.findall(r"^(\w+):", text_of(f"{TOP}/crates.txt"), re.M)
+    names = re.findall(r"^(\w+)(?: staticlib)?:", text_of(f"{TOP}/crates.txt"), re.M)
     crates = [it for it in map(crate_of, names) if it.edits or calls_of(it)]
     return "\n".join([HEAD, *map(section, crates), sums(crates)])
 

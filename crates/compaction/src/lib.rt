@@ -24,4 +24,5 @@ mod whole;
 
 pub use compact::{Compacted, compact_in, compact_one};
 pub use law::a_compacted_region_is_full;
-pub use whole::pass;
+pub use regions::{Movers, Region};
+pub use whole::{is_guarded, pass};

@@ -60,8 +60,8 @@ pub fn pass<M: Movers>(region: &mut Region, movers: &mut M) -> Compacted
     Compacted::Freed
 }
 
-// Whether any group has a guard.
-fn is_guarded(region: &Region) -> bool
+/// Whether any group has a guard.
+pub fn is_guarded(region: &Region) -> bool
     ensures { result ≡ false ↔ IsUnguarded region.now }
 {
     for group in 0..region.groups() {

@@ -34,7 +34,8 @@ use storing::{add_put, make_way};
 // All puts are of this table.
 const TABLE: u8 = 0;
 
-/// The puts that have not reached the disk, oldest first, and the segments in which they stand. Nothing is evicted.
+/// The puts that have not reached the disk, oldest first, and the segments in which they stand. Nothing is evicted. The pieces of
+/// one that is dropped stay allocated for good: [`Dirty::give_up`] hands them out.
 #[derive(Drop)]
 pub struct Dirty {
     region: Region,

@@ -17,4 +17,8 @@ mod ring;
 mod seeking;
 
 pub use dirty::Dirty;
+pub use outside::{Failed, Sink};
+pub use raw_range::Piece;
 pub use refusal::DirtyRefusal;
+pub use segmented_store::Ranged;
+pub use text_out::Writer;

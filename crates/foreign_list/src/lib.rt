@@ -48,5 +48,6 @@ pub use law::law_of_the_list;
 pub use linked_block::LinkedBlock;
 pub use owner::Returned;
 pub use owner_seat::OwnerSeat;
+pub use raw_range::{Piece, Range};
 pub use released::{Raced, Released};
 pub use tally::Tally;

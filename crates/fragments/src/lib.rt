@@ -18,4 +18,6 @@ mod tables;
 pub use bytes::{FRAGMENT_BYTES, GREATEST_VALUE, MOST_FRAGMENTS, value_size};
 pub use law::sizes_hang_together;
 pub use pieces::Pieces;
+pub use raw_range::Piece;
+pub use segmented_store::Ranged;
 pub use store::{Fragments, SetRefusal};

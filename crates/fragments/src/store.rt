@@ -41,7 +41,8 @@ pub enum SetRefusal {
 }
 
 /// The values of names, numbers below a bound, and the segments in which they stand. A value is a chain of fragments, which
-/// may move whenever a value is set.
+/// may move whenever a value is set. The pieces of a store that is dropped stay allocated for good: [`Fragments::give_up`] hands
+/// them out.
 #[derive(Drop)]
 pub struct Fragments {
     region: Region,

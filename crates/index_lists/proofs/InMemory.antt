@@ -6,7 +6,7 @@ use Rattle.std.proofs.lemmas.List.{drop-set-add, drop-set-lt, take-set-le, set-a
 use Rattle.std.proofs.lemmas.Bool.Decides.{nat_tests}
 use Rattle.common_lemmas.proofs.Orders.{lt_or_ge}
 use Rattle.index_lists.specs.Table.{Table, with_entry}
-use Rattle.index_lists.specs.inside.Links.{OneWay, number_of, number, numbered, with_link}
+use Rattle.index_lists.specs.inside.Links.{OneWay, number_of, numbered, with_link}
 
 -- ---- numbers of places
 

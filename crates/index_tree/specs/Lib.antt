@@ -16,3 +16,13 @@ pub mod Pairs
 pub mod Mended
 pub mod Prunes
 pub mod Limits
+-- of other crates, what the clauses here cite: a caller need not list these
+pub use Rattle.layout.specs.Kinds
+pub use Rattle.layout.specs.Sizes as ShardSizes
+pub use Rattle.regions.specs.Contents
+pub use Rattle.regions.specs.Segments
+pub use Rattle.regions.specs.Shapes
+pub use Rattle.segmented_store.specs.Ranged
+pub use Rattle.segmented_store.specs.Segments as StoreSegments
+pub use Rattle.tree_nodes.specs.Nodes
+pub use Rattle.tree_nodes.specs.Order

@@ -36,5 +36,7 @@ pub use law::{
     a_move_keeps_the_index, a_subtree_holds_what_lies_between, a_tree_is_as_worked,
     an_index_is_as_worked, sizes_are_as_worked,
 };
+pub use raw_range::Piece;
 pub use row_bytes::Scanned;
+pub use segmented_store::Ranged;
 pub use tree::{Full, IndexTree};

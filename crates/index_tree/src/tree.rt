@@ -32,7 +32,8 @@ use std::marker::Model;
 pub struct Full;
 
 /// An ordered map from keys of 1 to 256 bytes to numbers, and the segments in which its nodes stand. Nodes may move whenever a
-/// key is inserted, and never while a guard stands.
+/// key is inserted, and never while a guard stands. The pieces of an index that is dropped stay allocated for good:
+/// [`IndexTree::give_up`] hands them out.
 #[derive(Drop)]
 pub struct IndexTree {
     region: Region,

@@ -26,5 +26,6 @@ mod walk;
 pub use index::KeyIndex;
 pub use keys::Keys;
 pub use place::{Place, RowAt};
+pub use rows::Key;
 pub use shared::{lead_behind, lead_of};
 pub use walk::Rows;

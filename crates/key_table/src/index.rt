@@ -1,5 +1,5 @@
 //! The table and the order of keys as one index.
-ghost use Rattle.std.specs.Prelude.{◌≡◌, ◌≢◌, ℕ, ◌<◌, ◌≤◌, ◌∷◌, [], List, length, IfOk, MatchResult};
+ghost use Rattle.std.specs.Prelude.{◌≡◌, ◌≢◌, ℕ, ◌+◌, ◌<◌, ◌≤◌, ◌∷◌, [], List, true, false, length, IfOk, MatchResult};
 ghost use Rattle.common_lemmas.specs.Lists.{times};
 ghost use Rattle.layout.specs.Sizes.{tables};
 ghost use Rattle.rows.specs.Key as shown;
@@ -11,7 +11,7 @@ ghost use Rattle.key_table.specs.Lazy.{rows_in, Has, IsKeyed, IsLazyOf, IsStandi
 
 use crate::entries::{RowAt, Spot};
 use crate::late::Late;
-use crate::settling::{leave, settle_all};
+use crate::settling::{leave, settle_all, settle_one};
 use crate::standing::Standing;
 use crate::table::KeyTable;
 use key_index::{KeyIndex, Keys, Rows};
@@ -205,6 +205,26 @@ impl LazyIndex {
         self.order.clear();
         self.late.clear();
         self.outside = 0;
+    }
+
+    /// How many rows wait for their place in the order.
+    pub fn waiting(&self) -> u32
+        ensures { result ≡ length self.now.late }
+    {
+        self.late.len() as u32
+    }
+
+    /// Puts one of the rows that wait into the order, the one that came last. False where none waits.
+    pub fn settle_one<K: Keys>(&mut self, keys: &K) -> bool
+        requires { IsLazyOf (K.has_row keys.now) (K.key_of keys.now) self.old }
+        ensures lazy { IsLazyOf (K.has_row keys.now) (K.key_of keys.now) self.new }
+        ensures room { self.new.room ≡ self.old.room }
+        ensures rows { AreSame (rows_in self.old) (rows_in self.new) }
+        ensures none { result ≡ false → self.new.late ≡ [] }
+        ensures fewer { result ≡ true → length self.new.late + 1 ≡ length self.old.late }
+        ensures moved { StaysKeyed self.new }
+    {
+        settle_one(&mut self.late, &mut self.order, keys)
     }
 
     /// Puts the rows that wait into the order.

@@ -52,6 +52,13 @@ impl Late {
         })
     }
 
+    /// How many numbers there are.
+    pub fn len(&self) -> usize
+        ensures { result ≡ length self.now.numbers }
+    {
+        self.numbers.len()
+    }
+
     /// Whether a number is one of them.
     pub fn has(&self, number: u32) -> bool
         ensures one { result ≡ true → 1 ≤ times number self.now.numbers }

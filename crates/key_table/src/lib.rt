@@ -32,5 +32,6 @@ mod widening;
 pub use entries::{Full, RowAt, Spot};
 pub use index::LazyIndex;
 pub use key_index::{Keys, Rows};
+pub use rows::Key;
 pub use standing::Standing;
 pub use table::KeyTable;

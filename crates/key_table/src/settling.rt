@@ -10,7 +10,7 @@ use crate::standing::Standing;
 use key_index::{KeyIndex, Keys};
 
 /// Puts one of the rows that wait into the order. False where none waits.
-fn settle_one<K: Keys>(late: &mut Late, order: &mut KeyIndex, keys: &K) -> bool
+pub(crate) fn settle_one<K: Keys>(late: &mut Late, order: &mut KeyIndex, keys: &K) -> bool
     requires { CanSettle (K.has_row keys.now) (K.key_of keys.now) order.old late.old }
 
     // The same rows; the order loses none.

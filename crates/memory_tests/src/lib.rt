@@ -11,6 +11,8 @@ mod index_lists_tests;
 #[cfg(test)]
 mod number_set_tests;
 #[cfg(test)]
+mod raw_range_tests;
+#[cfg(test)]
 mod shard_memory_tests;
 #[cfg(test)]
 mod small_pools_tests;

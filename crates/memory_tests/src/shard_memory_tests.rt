@@ -152,11 +152,11 @@ fn leaves_a_page(memory: &mut ShardMemory<'_>) -> bool
     let Ok(block) = memory.give_here(100) else {
         return false;
     };
-    let given = (block.len(), block.owner());
+    let given = (block.len(), block.owner(), memory.blocks_here());
     memory.back_here(block);
-    let held = memory.pages_out();
+    let held = (memory.pages_out(), memory.blocks_here());
     memory.trim();
-    (given, held, memory.pages_out()) == ((100, OWNER), 1, 0)
+    (given, held, memory.pages_out()) == ((100, OWNER, 1), (1, 0), 0)
 }
 
 // Whether a segment that was given and came back leaves no page.

@@ -74,6 +74,10 @@ impl NumberSet {
         ensures none { IsNone result ↔ size self.now ≡ 0 }
         ensures least { IfSome result (IsLeast self.now) }
     {
+        // The count tells that a set is empty, so no word is looked at.
+        if self.count == 0 {
+            return None;
+        }
         let number = first(&self.words)?;
         Some(number as u32)
     }

@@ -1,4 +1,4 @@
-// What no clause says: that memory is found and is freed, and that a piece goes to another thread and back.
+// What no clause says: that memory is found and is freed. That a piece goes to another thread and back, the crate `memory_tests` sees.
 ghost use Rattle.std.specs.Prelude.{◌<◌, ◌≤◌};
 ghost use Rattle.layout.specs.Sizes.{most_pages};
 
@@ -10,7 +10,6 @@ use linked_list_allocator::LocalHeap;
 use std::alloc::Global;
 use std::process::Abort;
 use std::test::Fail;
-use std::thread;
 
 fn is_filled_with(piece: &Piece, byte: u8) -> bool {
     for own in piece.bytes() {
@@ -20,8 +19,6 @@ fn is_filled_with(piece: &Piece, byte: u8) -> bool {
     }
     true
 }
-
-fn may_cross<T: Send + Drop>(_value: T) {}
 
 #[test]
 fn two_pages_are_written_apart_and_put_back(rt: HostRuntime) -> Result<(), Fail> {
@@ -91,21 +88,5 @@ fn a_part_of_a_piece_is_written(rt: HostRuntime) -> Result<(), Fail> {
     let mut piece = range.take(0, 8);
     piece.part_mut(2, 3).fill(9);
     assert!(rt; piece.bytes() == [0, 0, 9, 9, 9, 0, 0, 0].as_slice());
-    Ok(())
-}
-
-#[test]
-fn a_piece_is_written_by_another_thread(rt: HostRuntime) -> Result<(), Fail> {
-    let mut range = Range::new(rt.alloc(), 3, 1)?;
-    let mut piece = range.take(16, 4);
-    let writer = thread::spawn(&rt, move || {
-        piece.bytes_mut().fill(7);
-        piece
-    })?;
-    let piece = writer.join(&rt);
-    assert!(rt; is_filled_with(&piece, 7));
-    assert_eq!(rt; piece.owner(), 3);
-    may_cross(piece);
-    may_cross(range);
     Ok(())
 }

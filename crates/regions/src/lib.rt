@@ -16,5 +16,7 @@ mod slots;
 
 pub use link::{led_to, link_to, place_of};
 pub use movers::Movers;
+pub use object_log::NewContent;
 pub use place::{LiveObject, NeedSegment, Place};
+pub use raw_range::{Piece, Range};
 pub use region::Region;

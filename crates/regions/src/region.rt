@@ -26,7 +26,7 @@ use std::mem;
 
 /// The segments of one shard, by number, and the objects in them. A segment is free, or closed or active in one of the
 /// region's groups, which share the free ones. A group has at most one active segment, and has one where it has a closed one.
-/// It has guards of its own.
+/// It has guards of its own. The pieces of a region that is dropped stay allocated for good: [`Region::give_up`] hands them out.
 #[derive(Drop)]
 pub struct Region {
     most: u32,

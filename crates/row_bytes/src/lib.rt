@@ -1,6 +1,6 @@
 //! A row in the content of a segment's object: a header of 32 bytes, the key, the value, and zero bytes up to the size.
-//! The header ends with two links to other rows, of a doubly linked list; which rows these are is not said here. Beside it,
-//! how keys stand one behind another in the reply to a scan.
+//! The header ends with two links to other rows, of a doubly linked list; which rows these are is not said here. Bytes of a
+//! value may be written over where they stand. Beside it, how keys stand one behind another in the reply to a scan.
 //!
 //! The layout is this project's. What the bytes mean is `specs/Rows.antt`, in both directions: the bytes of a row, and
 //! the row that bytes are read as.
@@ -10,6 +10,7 @@ mod keys;
 mod law;
 mod links;
 mod new_row;
+mod patching;
 mod reading;
 mod writing;
 
@@ -17,5 +18,6 @@ pub use keys::{Scanned, write_key};
 pub use law::a_row_is_read_as_it_is_written;
 pub use links::{Links, NO_LINK, newer_in, older_in, set_newer, set_older};
 pub use new_row::NewRow;
+pub use patching::set_value;
 pub use reading::{HEADER, key_in, key_of_row, number_in, put_in, table_in, value_in};
 pub use writing::{row_header, row_size};

@@ -20,3 +20,4 @@ pub mod Referred
 pub mod Reached
 pub mod Groups
 pub mod Grouped
+pub mod Patched

@@ -2,6 +2,7 @@
 pub mod Tables
 pub mod Chained
 pub mod Moved
+pub mod Patches
 pub mod Scanned
 pub mod Sought
 pub mod Consistent

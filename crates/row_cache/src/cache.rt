@@ -12,6 +12,7 @@ ghost use Rattle.regions.specs.Counts.{left};
 ghost use Rattle.row_cache.specs.Rows.{group_for, rows_of, reply_of, Keeps};
 
 mod getting;
+mod patching;
 mod reading;
 mod scanning;
 mod segments;
@@ -26,7 +27,8 @@ use std::alloc::{AllocError, Global};
 use std::marker::Model;
 use storing::{drop_row, group_for, put_row};
 
-/// The rows of one shard's cache, and the segments in which they stand.
+/// The rows of one shard's cache, and the segments in which they stand. The pieces of one that is dropped stay allocated for good:
+/// [`RowCache::give_up`] hands them out.
 #[derive(Drop)]
 pub struct RowCache {
     region: Region,

@@ -22,4 +22,6 @@ mod tables;
 pub use cache::RowCache;
 pub use compaction::Compacted;
 pub use put::Put;
+pub use raw_range::Piece;
+pub use regions::{NeedSegment, Place};
 pub use row_bytes::Scanned;

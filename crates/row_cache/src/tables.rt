@@ -21,6 +21,8 @@ ghost use Rattle.row_cache.specs.inside.Chained as chained;
 ghost use Rattle.row_cache.specs.inside.Consistent.{Relinks};
 ghost use Rattle.row_cache.specs.inside.Tables as tables;
 
+mod settling;
+
 use crate::ends::Ends;
 use crate::order::Order;
 use crate::row_keys::{RowKeys, content_of};
@@ -252,23 +254,6 @@ impl Tables {
         self.index.remove(standing);
         self.order = self.order.without(&standing.found.row);
         self.freed.push(standing.found.row).unwrap();
-    }
-
-    // All rows get their places in the order of their keys.
-    pub(crate) fn settle(&mut self, region: &Region)
-        requires { tables.AreTablesOf self.old (live_at region.now) }
-        ensures tables { tables.AreTablesOf self.new (live_at region.now) }
-        ensures recency { self.new.recency ≡ self.old.recency }
-        ensures ends { self.new.ends ≡ self.old.ends }
-        ensures places { self.new.places ≡ self.old.places }
-        ensures room { self.new.room ≡ self.old.room }
-        ensures settled { self.new.index.late ≡ [] }
-    {
-        let keys = RowKeys {
-            region,
-            places: self.places.as_slice(),
-        };
-        self.index.settle(&keys);
     }
 
     // The rows whose keys are at or above one, in the order of their keys: first those of its table.

@@ -1,22 +1,40 @@
 //! The bodies of the replies that a log keeps.
-ghost use Rattle.std.specs.Prelude.{◌≡◌, ◌+◌, ◌^◌, ◌<◌, ◌≤◌, [], true, length, take, drop, vec_len, vec_capacity, IfOk};
-ghost use Rattle.run_log.specs.inside.Recorded.{StandsAt};
+ghost use Rattle.std.specs.Prelude.{◌≡◌, ◌+◌, ◌^◌, ◌<◌, ◌≤◌, [], true, length, take, drop, vec_len, vec_capacity, IfOk, IfSome};
+ghost use Rattle.run_log.specs.inside.Recorded.{bytes_of, StandsAt};
 
 use byteorder::{ByteOrder, LittleEndian};
 use std::alloc::{AllocError, Global};
 use std::marker::Model;
+use trace_text::{Span, TraceBytes};
 
-/// A body of fewer bytes is copied whatever stands there already.
-const LONG: usize = 128;
+/// How many bytes a long body has at least. A shorter one is copied wherever else it stands.
+pub const LONG_BODY: usize = 128;
 
 /// How many places of long bodies are remembered, where there is room for one.
 const SLOTS: usize = 16_384;
 
-/// The bytes of bodies. A long one that stands there already, as a value does that is read again, is not copied a second time,
-/// where its place is still remembered.
+/// Whose bytes a body is of.
+#[derive(Clone, Copy)]
+pub(crate) enum Holder {
+    /// It was copied.
+    Log,
+    /// It is a value that a put of the trace has.
+    Trace,
+}
+
+/// Where a body stands.
+#[derive(Clone, Copy)]
+pub(crate) struct Kept {
+    pub(crate) holder: Holder,
+    pub(crate) start: u32,
+}
+
+/// The bytes of bodies that were copied, beside those of the trace. A long body that was copied already, as a value is that is read
+/// again, is not copied a second time, where its place is still remembered.
 #[derive(Drop)]
 pub(crate) struct Bodies {
     bytes: Vec<u8>,
+    trace: TraceBytes,
     room: u32,
     starts: Vec<u32>,
 }
@@ -27,19 +45,24 @@ impl Model for Bodies {
 
     ghost Value = { BodiesState };
 
-    ghost view = { λ b. record { bytes = b.bytes.items; room = b.room } };
+    ghost view = { λ b. record { bytes = b.bytes.items; trace = b.trace; room = b.room } };
 
     ghost invariant = { λ b. (vec_len b.bytes + b.room ≤ vec_capacity b.bytes) × (vec_len b.bytes + b.room < 2 ^ 32) };
 }
 
 impl Bodies {
-    /// No body yet, and room for so many bytes of them.
-    pub(crate) fn new(alloc: Global, room: u32) -> Result<Bodies, AllocError>
-        ensures { IfOk result (λ bodies. bodies ≡ record { bytes = []; room = room }) }
+    /// No body yet beside the trace, and room for so many bytes of them.
+    pub(crate) fn new(alloc: Global, trace: TraceBytes, room: u32) -> Result<Bodies, AllocError>
+        ensures { IfOk result (λ bodies. bodies ≡ record { bytes = []; trace = trace; room = room }) }
     {
-        let slots = if (room as usize) < LONG { 0 } else { SLOTS };
+        let slots = if (room as usize) < LONG_BODY {
+            0
+        } else {
+            SLOTS
+        };
         Ok(Bodies {
             bytes: Vec::with_capacity(alloc, room as usize)?,
+            trace,
             room,
             starts: Vec::from_elem(alloc, 0, slots)?,
         })
@@ -52,37 +75,76 @@ impl Bodies {
         self.room
     }
 
-    /// Where the bytes of a body stand from now on. Those that stood there before still do.
-    pub(crate) fn keep(&mut self, body: &[u8]) -> u32
+    /// Where the bytes of a body stand from now on: a long one in the trace, where they stand there at the place that is told, and else
+    /// in the log. Those that stood anywhere before still do.
+    pub(crate) fn keep(&mut self, body: &[u8], told: Option<u32>) -> Kept
         requires { length body.now ≤ self.old.room }
-        ensures stands { StandsAt self.new.bytes body.now result }
+        ensures stands { StandsAt (bytes_of result.holder self.new) body.now result.start }
         ensures before { take (length self.old.bytes) self.new.bytes ≡ self.old.bytes }
         ensures longer { length self.old.bytes ≤ length self.new.bytes }
+        ensures trace { self.new.trace ≡ self.old.trace }
         ensures room { self.new.room + length body.now ≡ self.old.room }
         ensures short { length body.now < 2 ^ 32 }
     {
         self.room = (self.room as usize - body.len()) as u32;
-        if body.len() < LONG {
-            return append(&mut self.bytes, body);
+        if let Some(start) = place_in(self.trace.as_slice(), body, told) {
+            return Kept {
+                holder: Holder::Trace,
+                start,
+            };
+        }
+        let holder = Holder::Log;
+        if body.len() < LONG_BODY {
+            let start = append(&mut self.bytes, body);
+            return Kept { holder, start };
         }
         let slot = slot_of(body);
         let remembered = self.starts.get(slot).copied().unwrap_or(0);
         if stands_at(self.bytes.as_slice(), body, remembered) {
-            return remembered;
+            return Kept {
+                holder,
+                start: remembered,
+            };
         }
         let start = append(&mut self.bytes, body);
         if let Some(place) = self.starts.get_mut(slot) {
             *place = start;
         }
-        start
+        Kept { holder, start }
     }
 
-    /// So many of the bytes, from one on.
-    pub(crate) fn body(&self, start: u32, len: u32) -> &[u8]
-        requires { start + len ≤ length self.now.bytes }
-        ensures { result.now ≡ take len (drop start self.now.bytes) }
+    /// So many of a holder's bytes, from one on.
+    pub(crate) fn body(&self, holder: Holder, start: u32, len: u32) -> &[u8]
+        requires { start + len ≤ length (bytes_of holder self.now) }
+        ensures { result.now ≡ take len (drop start (bytes_of holder self.now)) }
     {
-        &self.bytes[start as usize..start as usize + len as usize]
+        match holder {
+            Holder::Log => part_of(self.bytes.as_slice(), start, len),
+            Holder::Trace => self.trace.part(Span { start, len }),
+        }
+    }
+}
+
+/// So many bytes, from one on.
+fn part_of(bytes: &[u8], start: u32, len: u32) -> &[u8]
+    requires { start + len ≤ length bytes.now }
+    ensures { result.now ≡ take len (drop start bytes.now) }
+{
+    &bytes[start as usize..start as usize + len as usize]
+}
+
+/// Where a long body stands in the bytes, where that is at the place that is told.
+fn place_in(bytes: &[u8], body: &[u8], told: Option<u32>) -> Option<u32>
+    ensures { IfSome result (λ start. StandsAt bytes.now body.now start) }
+{
+    let at = told?;
+    if body.len() < LONG_BODY {
+        return None;
+    }
+    if stands_at(bytes, body, at) {
+        Some(at)
+    } else {
+        None
     }
 }
 

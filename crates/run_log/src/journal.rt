@@ -5,7 +5,8 @@ use cache_model::Entry;
 use std::alloc::{AllocError, Global};
 use std::marker::Model;
 
-/// The journal of a shard: what it did, in order. It grows within the room that `new` reserves; one that was read has none.
+/// The journal of a shard: what it did, in order. It grows within the room that `new` reserves; one that was read has none. Whoever
+/// uses a store by itself makes room again by `clear`, once it has read what was told; a node's journal is never cleared.
 #[derive(Drop)]
 pub struct Journal {
     entries: Vec<Entry>,
@@ -65,5 +66,13 @@ impl Journal {
         ensures spare { self.new.spare + 1 ≡ self.old.spare }
     {
         self.entries.push(entry).unwrap();
+    }
+
+    /// Takes all entries out: there is room for as many more.
+    pub fn clear(&mut self)
+        ensures entries { self.new.entries ≡ [] }
+        ensures spare { self.new.spare ≡ self.old.spare + length self.old.entries }
+    {
+        self.entries.clear();
     }
 }

@@ -9,6 +9,7 @@ mod keys;
 mod reply_log;
 mod shard_line;
 
+pub use bodies::LONG_BODY;
 pub use journal::Journal;
 pub use keys::{append_keys, next_key};
 pub use reply_log::ReplyLog;

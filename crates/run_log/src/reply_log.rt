@@ -2,22 +2,24 @@
 ghost use Rattle.std.specs.Prelude.{◌≡◌, ◌+◌, ◌^◌, ◌<◌, ◌≤◌, length, replicate, slice_set, unwrap_or, None, Some, IfOk, IfSome};
 ghost use Rattle.std.specs.List.{slice_get};
 ghost use Rattle.std.specs.Option.{option_map};
+ghost use Rattle.rows.specs.declared.reply_kind.ReplyKind.TheVariants as kinds;
 
-use crate::bodies::Bodies;
+use crate::bodies::{Bodies, Holder};
 use cache_model::ReplyKind;
 use std::alloc::{AllocError, Global};
 use std::marker::Model;
+use trace_text::TraceBytes;
 
-/// A reply that was recorded, and where its body stands in the log's bytes.
+/// A reply that was recorded, and where its body stands.
 #[derive(Clone, Copy)]
 struct Recorded {
     kind: ReplyKind,
+    holder: Holder,
     start: u32,
     len: u32,
 }
 
-/// The replies to the parts that a shard issued, numbered from 0. It grows within the room that `new`
-/// reserves.
+/// The replies to the parts that a shard issued, numbered from 0. It grows within the room that is reserved when it is made.
 #[derive(Drop)]
 pub struct ReplyLog {
     recorded: Vec<Option<Recorded>>,
@@ -29,17 +31,32 @@ impl Model for ReplyLog {
 
     ghost Value = { Replies };
 
-    ghost use Rattle.std.specs.Prelude.{length, map, All};
+    ghost use Rattle.std.specs.Prelude.{map, All};
     ghost use Rattle.run_log.specs.inside.Recorded.{reply_in, LiesIn};
 
-    ghost view = { λ l. record { replies = map (reply_in l.bodies.bytes) l.recorded.items; room = l.bodies.room } };
+    ghost view = { λ l. record { replies = map (reply_in l.bodies) l.recorded.items; room = l.bodies.room } };
 
-    ghost invariant = { λ l. All (LiesIn (length l.bodies.bytes)) l.recorded.items };
+    ghost invariant = { λ l. All (LiesIn l.bodies) l.recorded.items };
 }
 
 impl ReplyLog {
     /// A log of so many parts, none of them answered, with room for so many bytes of replies.
     pub fn new(alloc: Global, parts: u32, bytes: u32) -> Result<ReplyLog, AllocError>
+        ensures { IfOk result (λ log. log ≡ record { replies = replicate parts None; room = bytes }) }
+    {
+        ReplyLog::over(alloc, TraceBytes::new(Vec::new(alloc))?, parts, bytes)
+    }
+
+    /// The same over the bytes of a trace, for values that stand there.
+    ///
+    /// # Errors
+    /// `AllocError` where memory is not found; the share of the trace's bytes is given up.
+    pub fn over(
+        alloc: Global,
+        trace: TraceBytes,
+        parts: u32,
+        bytes: u32,
+    ) -> Result<ReplyLog, AllocError>
         ensures { IfOk result (λ log. log ≡ record { replies = replicate parts None; room = bytes }) }
     {
         let mut recorded = Vec::with_capacity(alloc, parts as usize)?;
@@ -48,7 +65,7 @@ impl ReplyLog {
         }
         Ok(ReplyLog {
             recorded,
-            bodies: Bodies::new(alloc, bytes)?,
+            bodies: Bodies::new(alloc, trace, bytes)?,
         })
     }
 
@@ -66,10 +83,32 @@ impl ReplyLog {
         ensures replies { self.new.replies ≡ slice_set self.old.replies part (Some (kind, body.now)) }
         ensures room { self.new.room + length body.now ≡ self.old.room }
     {
-        let start = self.bodies.keep(body);
+        self.put(part, kind, body, None);
+    }
+
+    /// Records a value as the reply to a part that has none yet. Where it has [`LONG_BODY`](crate::LONG_BODY) bytes or more, and the
+    /// same ones stand at `at` in the trace, they are not copied; they use room as if they were.
+    pub fn record_value(&mut self, part: u32, value: &[u8], at: u32)
+        requires part { slice_get self.old.replies part ≡ Some None }
+        requires fits { length value.now ≤ self.old.room }
+        ensures replies { self.new.replies ≡ slice_set self.old.replies part (Some (kinds.Value, value.now)) }
+        ensures room { self.new.room + length value.now ≡ self.old.room }
+    {
+        self.put(part, ReplyKind::Value, value, Some(at));
+    }
+
+    /// Records a reply, whose body may stand in the trace at the place that is told.
+    fn put(&mut self, part: u32, kind: ReplyKind, body: &[u8], told: Option<u32>)
+        requires part { slice_get self.old.replies part ≡ Some None }
+        requires fits { length body.now ≤ self.old.room }
+        ensures replies { self.new.replies ≡ slice_set self.old.replies part (Some (kind, body.now)) }
+        ensures room { self.new.room + length body.now ≡ self.old.room }
+    {
+        let kept = self.bodies.keep(body, told);
         self.recorded[part as usize] = Some(Recorded {
             kind,
-            start,
+            holder: kept.holder,
+            start: kept.start,
             len: body.len() as u32,
         });
     }
@@ -82,7 +121,8 @@ impl ReplyLog {
         let recorded = self.recorded.get(part as usize).copied()??;
         Some((
             recorded.kind,
-            self.bodies.body(recorded.start, recorded.len),
+            self.bodies
+                .body(recorded.holder, recorded.start, recorded.len),
         ))
     }
 }

@@ -15,4 +15,5 @@ mod segmented;
 pub use bound::room;
 pub use making::make_room;
 pub use ranged::Ranged;
+pub use raw_range::Piece;
 pub use segmented::Segmented;

@@ -12,7 +12,8 @@ use raw_range::Range;
 use std::alloc::{AllocError, Global};
 use std::marker::Model;
 
-/// A store whose segments are all those of a range, and the range. Contracts see the store and the pages of the range.
+/// A store whose segments are all those of a range, and the range. Contracts see the store and the pages of the range. One that is
+/// dropped leaks these pages: only [`Ranged::close`] frees them.
 #[derive(Drop)]
 pub struct Ranged<S: Segmented> {
     pub store: S,

@@ -12,7 +12,7 @@ use Rattle.common_lemmas.proofs.Options.{some_is, some_or_none}
 use Rattle.span_lists.specs.Layout.{Layout, IsFree, Divides, allocated_pages, HasNone, IsGreatest}
 use Rattle.small_pools.specs.Classes.{size_of, order_of, order_for, capacity_of, IsClass, IsLeastClass}
 use Rattle.small_pools.specs.Objects as pool
-use Rattle.small_pools.specs.Objects.{Objects, AreObjects, AreUsed, HasObject, HoldsFor, IsHeld, IsUsedUp, LacksObject, slot_place}
+use Rattle.small_pools.specs.Objects.{Objects, AreObjects, AreUsed, HasObject, HoldsFor, IsHeld, IsUsedUp, slot_place}
 use Rattle.shard_memory.specs.Room.{Room, LacksClass, LacksBlock, LacksSegment, KeepsRoom, HasAllRoom}
 use Rattle.shard_memory.specs.inside.Pieces.{Pieces}
 use Rattle.shard_memory.specs.inside.Parts.{IsBlockAt, blocks_of, segments_of}

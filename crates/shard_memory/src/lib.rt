@@ -9,9 +9,11 @@
 //! elsewhere.
 #![tactic(auto)]
 
+pub use foreign_list::{Foreign, ForeignBlock, OwnerSeat};
 pub use give_refusal::GiveRefusal;
 pub use law::segments_fill_the_pages;
 pub use memory::ShardMemory;
+pub use raw_range::Piece;
 pub use share::Share;
 
 mod give_refusal;

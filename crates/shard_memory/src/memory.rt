@@ -49,8 +49,8 @@ use raw_range::Piece;
 use std::alloc::Global;
 use std::marker::Model;
 
-/// The memory of one shard, with the owner's seat at its list. One that is dropped is not freed: only `finish` gives its memory
-/// back.
+/// The memory of one shard, with the owner's seat at its list. One that is dropped leaks its pages: only [`ShardMemory::finish`] gives
+/// them back, once no block and no segment is out.
 #[derive(Drop)]
 pub struct ShardMemory<'f> {
     home: &'f Foreign,
@@ -58,6 +58,8 @@ pub struct ShardMemory<'f> {
     own: PieceAllocator,
     // How many tickets are not idle.
     out: u32,
+    // How many blocks that stay are out.
+    here: u32,
     // How many blocks came home, at most the greatest u64.
     back: u64,
 }
@@ -88,14 +90,15 @@ impl<'f> Model for ShardMemory<'f> {
       take_wholes = m.seat.take_wholes;
     } };
 
-    ghost invariant = { λ m. IsLending m.home.now m.seat m.own m.out m.back };
+    ghost invariant = { λ m. IsLending m.home.now m.seat m.own m.out m.here m.back };
 }
 
 impl<'f> ShardMemory<'f> {
     /// The memory of a shard of so many pages, all of it free, whose lent blocks come home over this list.
     ///
     /// # Errors
-    /// Want of memory; then the seat is handed back.
+    /// Want of memory, and no other. The seat is handed back as it was, so that the list may be closed, and nothing is left that is
+    /// not freed.
     pub fn open(
         alloc: Global,
         shard: u32,
@@ -128,6 +131,7 @@ impl<'f> ShardMemory<'f> {
                 seat,
                 own,
                 out: 0,
+                here: 0,
                 back: 0,
             }),
             Err(_) => Err(seat),
@@ -164,6 +168,13 @@ impl<'f> ShardMemory<'f> {
         self.out
     }
 
+    /// How many blocks of `give_here` are out. At most 1,024 may be, and `finish` wants none.
+    pub fn blocks_here(&self) -> u32
+        ensures { result ≡ length self.now.blocks }
+    {
+        self.here
+    }
+
     /// How many blocks `give` has lent. It stands at the greatest u64.
     pub fn lent(&self) -> u64
         ensures { result ≡ self.now.lends }
@@ -191,6 +202,7 @@ impl<'f> ShardMemory<'f> {
         ensures same { self.new ≡ record self.old { blocks = self.new.blocks; objects = self.new.objects; room = self.new.room } }
     {
         self.own.put_block(piece);
+        self.here -= 1;
     }
 
     /// Gives each span of the pools back to the pages that has no allocated object.

@@ -14,14 +14,16 @@ ghost use Rattle.shard_node.specs.inside.Parts.{DoesPart};
 use crate::doing::{note_done, put_row};
 use cache_model::ReplyKind;
 use rows::Key;
-use run_log::{Journal, ReplyLog};
+use run_log::{Journal, LONG_BODY, ReplyLog};
 use shard_rings::Operation;
 use shard_store::{Put, ShardStore};
+use trace_text::Trace;
 
-/// Does a part, of the command of this number: the command is recorded in the journal, behind the evictions that it took, and its
-/// reply in the log, at the place of the part. `keys` has room for the keys of any scan. Nothing takes memory.
+/// Does a part, of the command of this number of the trace: the command is recorded in the journal, behind the evictions that it took,
+/// and its reply in the log, at the place of the part. `keys` has room for the keys of any scan. Nothing takes memory.
 pub(crate) fn do_part(
     store: &mut ShardStore<'_>,
+    trace: &Trace,
     number: u32,
     operation: &Operation<'_>,
     part: u32,
@@ -47,7 +49,7 @@ pub(crate) fn do_part(
 {
     match *operation {
         Operation::Put { key, value } => do_put(store, number, key, value, part, journal, log),
-        Operation::Get { key } => do_get(store, number, key, part, journal, log),
+        Operation::Get { key } => do_get(store, trace, number, key, part, journal, log),
         Operation::Erase { key } => do_erase(store, number, key, part, journal, log),
         Operation::Scan { from, count } => {
             do_scan(store, number, from, count, part, keys, journal, log);
@@ -79,9 +81,10 @@ fn do_put(
     log.record(part, kind, &[]);
 }
 
-/// Looks a row up. Its value is copied once, from its segment into the log.
+/// Looks a row up. Its value is copied once, from its segment into the log, or not at all where its put has it in the trace.
 fn do_get(
     store: &mut ShardStore<'_>,
+    trace: &Trace,
     number: u32,
     key: Key<'_>,
     part: u32,
@@ -98,8 +101,17 @@ fn do_get(
 {
     note_done(journal, number);
     match store.get(key.table, key.bytes) {
-        Some(value) => log.record(part, ReplyKind::Value, value),
+        Some((value, put)) => log.record_value(part, value, place_in(trace, put, value)),
         None => log.record(part, ReplyKind::Missing, &[]),
+    }
+}
+
+/// Where the put of this number has a long value in the trace. Of a short one it is not asked: a look at its command waits for memory.
+fn place_in(trace: &Trace, put: u32, value: &[u8]) -> u32 {
+    if value.len() < LONG_BODY {
+        0
+    } else {
+        trace.value_start(put)
     }
 }
 

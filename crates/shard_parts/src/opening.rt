@@ -49,7 +49,12 @@ impl<'f, L: Drop> Room<'f, L> {
         let needs = trace.needs(shard, shards);
         Ok(Room {
             journal: Journal::new(alloc, needs.here_parts + needs.here_puts)?,
-            log: ReplyLog::new(alloc, needs.own_parts, needs.reply_bytes)?,
+            log: ReplyLog::over(
+                alloc,
+                trace.bytes().share()?,
+                needs.own_parts,
+                needs.reply_bytes,
+            )?,
             keys: vec![in alloc; 0; (KEY_ROOM * MOST_KEYS) as usize]?,
             peers: Vec::with_capacity(alloc, shards as usize - 1)?,
             rows: needs.here_puts,

@@ -4,3 +4,20 @@ pub mod Works
 pub mod Lending
 pub mod Lends
 pub mod inside
+-- of other crates, what the clauses here cite: a caller need not list these
+pub use Rattle.foreign_list.specs.Lists
+pub use Rattle.foreign_list.specs.OwnerSeats
+pub use Rattle.layout.specs.Counts
+pub use Rattle.layout.specs.Sizes
+pub use Rattle.regions.specs.Contents
+pub use Rattle.regions.specs.Shapes
+pub use Rattle.row_cache.specs.Rows
+pub use Rattle.rows.specs.Apply
+pub use Rattle.rows.specs.Evictions
+pub use Rattle.rows.specs.Key
+pub use Rattle.rows.specs.KeyBody
+pub use Rattle.rows.specs.Row
+pub use Rattle.rows.specs.Spelled
+pub use Rattle.rows.specs.Told
+pub use Rattle.shard_memory.specs.Room
+pub use Rattle.shard_memory.specs.Tickets

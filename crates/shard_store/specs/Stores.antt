@@ -75,6 +75,13 @@ pub record IsSameStore (old new : StoreState) : Type 0 where
   pub list : new.list ≡ old.list
   pub guards : SameGuards old.region new.region
 
+-- nothing was lent, nothing came home, and the list was not looked at
+pub record KeepsTickets (old new : StoreState) : Type 0 where
+  pub lent : new.lent ≡ old.lent
+  pub lends : new.lends ≡ old.lends
+  pub backs : new.backs ≡ old.backs
+  pub looks : new.looks ≡ old.looks
+
 -- each row that stood at a place, live or dead, stands there, under as many guards
 pub record RowsStay (old new : StoreState) : Type 0 where
   pub each : (p : Place) (row : Row) → StandsAt old.region p row → StandsAt new.region p row

@@ -28,6 +28,19 @@ impl<'a> EvictedTags<'a> {
             missed: 0,
         }
     }
+
+    /// Gives the memory back. Whoever wants to know what stands in it afterwards ends with this.
+    pub fn into_tags(self) -> &'a mut [u32]
+        ensures same_reference { result.ghost_name ≡ self.entry.tags.ghost_name }
+        ensures tags { result.now ≡ self.entry.tags.now }
+    {
+        let EvictedTags {
+            tags,
+            told: _,
+            missed: _,
+        } = self;
+        tags
+    }
 }
 
 impl<'a> Evictions for EvictedTags<'a> {

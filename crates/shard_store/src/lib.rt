@@ -22,8 +22,9 @@ mod storing;
 
 pub use evicted_tags::EvictedTags;
 pub use eviction_count::EvictionCount;
+pub use foreign_list::{Foreign, ForeignBlock, OwnerSeat};
 pub use regions::Place;
-pub use row_cache::{Put, Scanned};
+pub use row_cache::{Compacted, Put, Scanned};
 pub use rows::Evictions;
 pub use shard_memory::{GiveRefusal, Share};
 pub use store::ShardStore;

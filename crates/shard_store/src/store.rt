@@ -15,6 +15,7 @@ ghost use Rattle.shard_store.specs.Works.{DoesAbove, pressure};
 
 mod getting;
 mod lending;
+mod using;
 mod values;
 
 use crate::segments::{begin, give_back};
@@ -27,7 +28,8 @@ use shard_memory::ShardMemory;
 use std::alloc::Global;
 use std::marker::Model;
 
-/// The memory and the cache of one shard.
+/// The memory and the cache of one shard. One that is dropped leaks its pages: only [`ShardStore::finish`] gives them back, once every
+/// lent block is home.
 #[derive(Drop)]
 pub struct ShardStore<'f> {
     memory: ShardMemory<'f>,
@@ -56,7 +58,8 @@ impl<'f> ShardStore<'f> {
     /// of their own, and the pages are at least 1,536. Two segments go to the cache, one of them active, in group 0.
     ///
     /// # Errors
-    /// Want of memory; then the seat is handed back. No other call takes memory.
+    /// Want of memory, and no other. The seat is handed back as it was, so that the list may be closed, and nothing is left that is
+    /// not freed. No other call takes memory.
     pub fn open(
         alloc: Global,
         shard: u32,
@@ -171,6 +174,14 @@ impl<'f> ShardStore<'f> {
         ensures unchanged { self.new ≡ self.old }
     {
         self.cache.scan(table, from, count, into)
+    }
+
+    /// Where more rows than `most` wait for their places in the order of keys, one of them gets its place, so that no scan has to
+    /// put many of them in order at once.
+    pub fn settle_above(&mut self, most: u32)
+        ensures unchanged { self.new ≡ self.old }
+    {
+        self.cache.settle_above(most);
     }
 
     /// How many rows there are.

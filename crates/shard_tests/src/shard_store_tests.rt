@@ -43,6 +43,14 @@ fn behind(bytes: &[u8], len: u32) -> Option<&[u8]> {
     bytes.get(HEAD as usize..)?.get(..len as usize)
 }
 
+// The value of the row that was found.
+fn value_of(found: Option<(&[u8], u32)>) -> Option<&[u8]> {
+    match found {
+        Some((value, _)) => Some(value),
+        None => None,
+    }
+}
+
 // The value behind the head of a block. None where none was found.
 fn value_in(bytes: &[u8], found: Option<u32>) -> Option<&[u8]> {
     match found {
@@ -128,7 +136,7 @@ impl<'f> Trial<'f> {
 
     // Whether the key has this value, or none.
     fn has(&mut self, key: &[u8], value: Option<&[u8]>) -> bool {
-        self.store.get(self.table, key) == value
+        value_of(self.store.get(self.table, key)) == value
     }
 
     fn erase(&mut self, key: &[u8]) -> bool {

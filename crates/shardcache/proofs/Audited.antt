@@ -12,7 +12,7 @@ use Rattle.settings.specs.Settings.{Settings}
 use Rattle.shardcache.specs.declared.auditing.Framed.{Framed}
 use Rattle.shardcache.specs.declared.status.Status.{Status}
 use Rattle.shardcache.specs.declared.status.Status.TheVariants as status
-use Rattle.shardcache.specs.Audits.{Audit, Audited, audit_for, with_report}
+use Rattle.shardcache.specs.Audits.{Audited, audit_for, with_report}
 use Rattle.shardcache.specs.TraceFor.{trace_for}
 use Rattle.shardcache.specs.inside.Ending.{EndsInput, EndsOutput}
 use Rattle.shardcache.specs.inside.Framed.{audit_of}

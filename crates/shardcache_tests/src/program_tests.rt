@@ -6,6 +6,7 @@ mod faults;
 mod gates;
 mod judged;
 mod limits;
+mod long_values;
 mod printed;
 mod shards;
 mod stores;

@@ -8,6 +8,7 @@
 
 pub use classes::class_of;
 pub use pools::Pools;
+pub use span_lists::Spans;
 
 mod classes;
 mod held_spans;

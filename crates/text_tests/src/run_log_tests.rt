@@ -6,7 +6,7 @@ use cache_model::{Entry, ReplyKind};
 use run_log::{Journal, ReplyLog, next_key};
 use std::alloc::{AllocError, Global};
 use std::test::Fail;
-use trace_text::Span;
+use trace_text::{Span, TraceBytes};
 
 #[test]
 fn a_log_and_a_journal_keep_what_they_are_given(rt: HostRuntime) -> Result<(), Fail> {
@@ -20,6 +20,35 @@ fn a_log_and_a_journal_keep_what_they_are_given(rt: HostRuntime) -> Result<(), F
     let mut journal = Journal::new(rt.alloc(), 1)?;
     journal.add(Entry::Done(7));
     assert!(rt; journal.entries() == [Entry::Done(7)].as_slice() && journal.spare() == 0);
+    journal.clear();
+    assert!(rt; journal.entries().is_empty() && journal.spare() == 1);
+    Ok(())
+}
+
+/// Whether a value of at most 1,000 bytes is read as it was recorded in a log over a trace of these bytes, at this place of which
+/// it may stand.
+fn is_read(alloc: Global, trace: &[u8], value: &[u8], at: u32) -> Result<bool, AllocError> {
+    if value.len() > 1000 {
+        return Ok(false);
+    }
+    let bytes = TraceBytes::new(Vec::from_slice(alloc, trace)?)?;
+    let mut log = ReplyLog::over(alloc, bytes.share()?, 1, 1000)?;
+    drop(bytes);
+    log.record_value(0, value, at);
+    match log.reply(0) {
+        Some((kind, body)) => Ok(kind == ReplyKind::Value && body == value),
+        None => Ok(false),
+    }
+}
+
+#[test]
+fn a_value_is_read_where_it_stands_or_from_a_copy(rt: HostRuntime) -> Result<(), Fail> {
+    let trace = [b'v'; 300];
+    // It stands there; the trace ends before it does; another stands there; it is short.
+    assert!(rt; is_read(rt.alloc(), &trace, &[b'v'; 200], 100)?);
+    assert!(rt; is_read(rt.alloc(), &trace, &[b'v'; 200], 101)?);
+    assert!(rt; is_read(rt.alloc(), &trace, &[b'w'; 200], 100)?);
+    assert!(rt; is_read(rt.alloc(), &trace, b"vvv", 0)?);
     Ok(())
 }
 

@@ -1,11 +1,11 @@
 -- What taking, pushing and replacing leave of the allocated objects.
-use Rattle.std.proofs.Common.{◌≡◌, ◌≢◌, ℕ, zero, suc, ◌+◌, ◌<◌, ◌≤◌, inl, inr, List, [], ◌∷◌, ◌++◌, length, get_or, set, Some, None, IsSome, true, false, refl, sym, ap, subst, ◌∙◌, arith, get_or-set_same, get_or-set_other}
+use Rattle.std.proofs.Common.{◌≡◌, ◌≢◌, ℕ, zero, suc, ◌+◌, ◌<◌, inl, inr, List, [], ◌∷◌, ◌++◌, length, get_or, set, None, IsSome, true, false, refl, sym, ap, subst, ◌∙◌, arith, get_or-set_same, get_or-set_other}
 use Rattle.std.proofs.Math.ListN.{length-set}
 use Rattle.std.proofs.lemmas.Bool.{cases_eq}
 use Rattle.std.proofs.lemmas.List.{length_push, get_or_push}
 use Rattle.std.specs.Ordering.{nat_cmp}
 use Rattle.std.specs.FinMap as map
-use Rattle.common_lemmas.proofs.Maps.{get_inserted, get_past_insert, get_past_remove, inserted_is_some}
+use Rattle.common_lemmas.proofs.Maps.{get_past_insert, get_past_remove, inserted_is_some}
 use Rattle.timed.specs.Live.{AreLive}
 
 some_not_none : (m : map.FinMap nat_cmp ℕ) (p q : ℕ) → IsSome (map.get m p) → map.get m q ≡ None → p ≢ q

@@ -3,7 +3,7 @@
 //! It is of version 1 or, where its first line says so, of version 2, in which each command names a table.
 //!
 //! A trace is read once, by [`parse`], or on threads by [`parse_on`]. A [`Trace`] keeps its bytes, and each [`Command`]
-//! says where its key and its value stand in them; no text is copied.
+//! says where its key and its value stand in them; no text is copied. The bytes may have other owners too ([`TraceBytes`]).
 //!
 //! On threads, one of them cuts a stretch of lines, all read it, and the commands that its lines are go behind those before.
 //! A line that is cut or read takes 36 bytes, and 65,536 of them are on the way at most: 2.4 MB beside the commands.
@@ -22,6 +22,7 @@ mod refusal;
 mod route;
 mod shard_counts;
 mod trace;
+mod trace_bytes;
 mod version;
 
 pub use command::{Command, Span};
@@ -31,3 +32,4 @@ pub use reading_on::parse_on;
 pub use refusal::{Cause, ParseRefusal};
 pub use rows::Kind;
 pub use trace::Trace;
+pub use trace_bytes::TraceBytes;

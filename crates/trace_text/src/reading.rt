@@ -20,6 +20,7 @@ use crate::refusal::{Cause, ParseRefusal};
 use crate::route::Route;
 use crate::shard_counts::ShardCounts;
 use crate::trace::Trace;
+use crate::trace_bytes::TraceBytes;
 use crate::version::{behind_version, version_of};
 use std::alloc::Global;
 
@@ -165,21 +166,21 @@ fn commands_of(
 }
 
 /// The trace of these commands, which the bytes spell, and of their routes; refused where the replies would be too large.
-pub(crate) fn trace_over(
-    bytes: Vec<u8>,
+fn trace_over(
+    bytes: TraceBytes,
     commands: CommandList,
     where_to: Vec<Route>,
     shards: u32,
 ) -> Result<Trace, ParseRefusal>
-    requires short { length bytes.items ≤ most_trace_bytes }
+    requires short { length bytes ≤ most_trace_bytes }
     requires some_shards { 1 ≤ shards }
     requires most_shards { shards ≤ most_shards }
-    requires spelled { AreSpelled bytes.items commands }
-    requires routed { where_to.items ≡ routes shards (operations bytes.items commands) }
-    ensures bytes { IfOk result (λ trace. trace.bytes ≡ bytes.items) }
+    requires spelled { AreSpelled bytes commands }
+    requires routed { where_to.items ≡ routes shards (operations bytes commands) }
+    ensures bytes { IfOk result (λ trace. trace.bytes ≡ bytes) }
     ensures shards { IfOk result (λ trace. trace.shards ≡ shards) }
-    ensures read { IfOk result (λ trace. trace_of bytes.items shards ≡ Ok (trace_in trace)) }
-    ensures refused { IfErr result (λ refusal. IsRefusedAs refusal (trace_of bytes.items shards)) }
+    ensures read { IfOk result (λ trace. trace_of bytes shards ≡ Ok (trace_in trace)) }
+    ensures refused { IfErr result (λ refusal. IsRefusedAs refusal (trace_of bytes shards)) }
 {
     if replies_room(&commands, shards) > MOST_REPLIES {
         return Err(ParseRefusal::Trace {
@@ -205,6 +206,27 @@ pub(crate) fn trace_over(
     })
 }
 
+/// The same over bytes that have no other owner.
+pub(crate) fn trace_owning(
+    bytes: Vec<u8>,
+    commands: CommandList,
+    where_to: Vec<Route>,
+    shards: u32,
+) -> Result<Trace, ParseRefusal>
+    requires short { length bytes.items ≤ most_trace_bytes }
+    requires some_shards { 1 ≤ shards }
+    requires most_shards { shards ≤ most_shards }
+    requires spelled { AreSpelled bytes.items commands }
+    requires routed { where_to.items ≡ routes shards (operations bytes.items commands) }
+    ensures bytes { IfOk result (λ trace. trace.bytes ≡ bytes.items) }
+    ensures shards { IfOk result (λ trace. trace.shards ≡ shards) }
+    ensures read { IfOk result (λ trace. trace_of bytes.items shards ≡ Ok (trace_in trace)) }
+    ensures refused { IfErr result (λ refusal. IsRefusedAs refusal (trace_of bytes.items shards)) }
+{
+    let shared = TraceBytes::new(bytes)?;
+    trace_over(shared, commands, where_to, shards)
+}
+
 /// Reads a trace of at most [`MOST_TRACE_BYTES`] bytes for a run with `shards` shards, 1 to 16.
 ///
 /// The bytes are cut at each LF, what stands behind the last LF is a line too, and one CR at a line's end is dropped.
@@ -228,5 +250,5 @@ pub fn parse(alloc: Global, bytes: Vec<u8>, shards: u32) -> Result<Trace, ParseR
 {
     let version = version_of(bytes.as_slice());
     let (commands, routes) = commands_of(alloc, version, bytes.as_slice(), shards)?;
-    trace_over(bytes, commands, routes, shards)
+    trace_owning(bytes, commands, routes, shards)
 }

@@ -15,7 +15,7 @@ use crate::command::{Command, Span};
 use crate::command_list::CommandList;
 use crate::cutting::{Line, Place, Unread};
 use crate::line::is_passed;
-use crate::reading::{MOST_COMMANDS, command_at, cut_line, parse, trace_over};
+use crate::reading::{MOST_COMMANDS, command_at, cut_line, parse, trace_owning};
 use crate::refusal::ParseRefusal;
 use crate::route::Route;
 use crate::trace::Trace;
@@ -342,5 +342,5 @@ pub fn parse_on<R: Threads + Sync>(
         commands.as_slice(),
         shards,
     )?;
-    trace_over(bytes, commands, routes, shards)
+    trace_owning(bytes, commands, routes, shards)
 }

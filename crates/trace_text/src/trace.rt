@@ -2,6 +2,7 @@
 ghost use Rattle.std.specs.Prelude.{◌≡◌, ◌⊎◌, ◌<◌, ◌≤◌, length, map, slice_index_or, All, Ok, Contains};
 ghost use Rattle.layout.specs.Sizes.{greatest_key, greatest_value, tables};
 ghost use Rattle.rows.specs.Operation.{Operation, is_scan};
+ghost use Rattle.trace_text.specs.declared.command.Command.{Command};
 ghost use Rattle.trace_text.specs.Operation.{part};
 ghost use Rattle.trace_text.specs.Parsed.{trace_in, AreNumbered, IsConsistent, IsWellFormed, LiesWithin};
 ghost use Rattle.trace_text.specs.Parts.{has_part, most_shards, owner, replies_room};
@@ -13,6 +14,7 @@ use crate::command::Command;
 use crate::command_list::CommandList;
 use crate::route::Route;
 use crate::shard_counts::ShardCounts;
+use crate::trace_bytes::TraceBytes;
 use crate::version::{regions_in, version_of};
 use std::marker::Model;
 
@@ -20,7 +22,7 @@ use std::marker::Model;
 /// shards that the trace was parsed for.
 #[derive(Drop)]
 pub struct Trace {
-    pub(crate) bytes: Vec<u8>,
+    pub(crate) bytes: TraceBytes,
     pub(crate) commands: CommandList,
     pub(crate) shards: u32,
     // One for each command.
@@ -37,9 +39,9 @@ impl Model for Trace {
 
     ghost Value = { Parsed };
 
-    ghost view = { λ t. record { bytes = t.bytes.items; commands = t.commands; shards = t.shards } };
+    ghost view = { λ t. record { bytes = t.bytes; commands = t.commands; shards = t.shards } };
 
-    ghost invariant = { λ t. IsRouted (record { bytes = t.bytes.items; commands = t.commands; shards = t.shards })
+    ghost invariant = { λ t. IsRouted (record { bytes = t.bytes; commands = t.commands; shards = t.shards })
         t.routes.items t.owned.counts t.issued.counts };
 }
 
@@ -56,6 +58,13 @@ impl Trace {
         ensures few_commands { length self.now.commands ≤ most_commands }
     {
         self.shards
+    }
+
+    /// The bytes, of which whoever refers to some of them may have a share.
+    pub fn bytes(&self) -> &TraceBytes
+        ensures { result.now ≡ self.now.bytes }
+    {
+        &self.bytes
     }
 
     /// The version of the trace: 2 where its first line is `version 2`, so that each command names a table; else 1.
@@ -104,8 +113,7 @@ impl Trace {
         ensures most { length result.now ≤ greatest_key }
         ensures lies { LiesWithin self.now.bytes command.now }
     {
-        let start = command.key.start as usize;
-        &self.bytes[start..start + command.key.len as usize]
+        self.bytes.part(command.key)
     }
 
     /// The bytes of a command's value: of a put at most 12,000; else none. The command is of this trace.
@@ -114,8 +122,18 @@ impl Trace {
         ensures value { result.now ≡ part self.now.bytes command.now.value }
         ensures most { length result.now ≤ greatest_value }
     {
-        let start = command.value.start as usize;
-        &self.bytes[start..start + command.value.len as usize]
+        self.bytes.part(command.value)
+    }
+
+    /// Where the value of the command of this number begins in the bytes. The number is one of a command; of another one nothing
+    /// is said.
+    pub fn value_start(&self, number: u32) -> u32
+        ensures { (command : Command) → Contains self.now.commands command → command.number ≡ number
+            → result ≡ command.value.start }
+    {
+        // Commands are numbered from 1, in order.
+        let at = number.saturating_sub(1) as usize;
+        value_start_at(self.commands.as_slice(), at)
     }
 
     /// Where the command at this place goes.
@@ -151,5 +169,16 @@ impl Trace {
         ensures { (d : Operation) → result ≡ has_part self.now.shards shard (slice_index_or (trace_in self.now).operations at d) }
     {
         self.route(at).has_part(shard)
+    }
+}
+
+/// Where the value of the command at this place begins; 0 behind the last command.
+fn value_start_at(commands: &[Command], at: usize) -> u32
+    ensures { (d : Command) → at < length commands.now → result ≡ (slice_index_or commands.now at d).value.start }
+{
+    if at < commands.len() {
+        commands[at].value.start
+    } else {
+        0
     }
 }

@@ -1,18 +1,19 @@
 //! What a cache tells of itself.
-ghost use Rattle.std.specs.Prelude.{◌≡◌, ◌⊎◌, ◌+◌, ◌*◌, ◌<◌, ◌≤◌, ℕ, List, length, take, Some, None, IsSome, IfSome, MatchOption};
+ghost use Rattle.std.specs.Prelude.{◌≡◌, ◌⊎◌, ◌↔◌, ◌<◌, ◌≤◌, false, length, Some, None, IsSome, IfSome, MatchOption};
 ghost use Rattle.layout.specs.Sizes.{greatest_value, tables};
 ghost use Rattle.rows.specs.Key.{in_table};
 ghost use Rattle.rows.specs.Row.{Row, live};
 ghost use Rattle.rows.specs.Apply as apply;
-ghost use Rattle.regions.specs.Shapes.{group_count, group_of, guards_at, guards_of, free_count, HasGroup};
+ghost use Rattle.regions.specs.Shapes.{group_count, group_of, guards_at, guards_of, free_count, HasGroup, IsUnguarded};
 ghost use Rattle.regions.specs.Counts.{left, live_total};
 ghost use Rattle.regions.specs.Contents.{live_at};
 ghost use Rattle.row_cache.specs.Rows.{group_for, rows_of, StandsAt, IsLinkedThrough, AreGrouped, AreMetOnce};
 
 use super::RowCache;
 use super::storing::group_for;
+use compaction::is_guarded;
 use regions::Place;
-use row_bytes::value_in;
+use row_bytes::{put_in, value_in};
 use rows::Key;
 
 impl RowCache {
@@ -75,6 +76,16 @@ impl RowCache {
         value_in(self.region.bytes(place))
     }
 
+    /// The value of the row at a place, live, or dead under a guard of its segment's group, and the number of its put.
+    pub fn row_at(&self, place: Place) -> (&[u8], u32)
+        requires row { (row : Row) × StandsAt self.now.region place row }
+        requires live { IsSome (live_at self.now.region place) ⊎ (1 ≤ guards_at self.now.region place.segment) }
+        ensures { (row : Row) × StandsAt self.now.region place row × (result.0.now ≡ row.value) × (result.1 ≡ row.number) }
+    {
+        let content = self.region.bytes(place);
+        (value_in(content), put_in(content))
+    }
+
     /// How many segments are free.
     pub fn free_segments(&self) -> u32
         ensures { result ≡ free_count self.now.region }
@@ -104,5 +115,12 @@ impl RowCache {
         ensures { result ≡ guards_of self.now.region group }
     {
         self.region.guards(group)
+    }
+
+    /// Whether a guard stands on any group.
+    pub fn is_guarded(&self) -> bool
+        ensures { result ≡ false ↔ IsUnguarded self.now.region }
+    {
+        is_guarded(&self.region)
     }
 }

@@ -17,6 +17,16 @@ use row_bytes::{Scanned, write_key};
 use rows::Key;
 
 impl RowCache {
+    /// Where more rows than `most` wait for their places in the order of keys, one of them gets its place. Whoever calls it
+    /// before each put spares the next scan all but so many.
+    pub fn settle_above(&mut self, most: u32)
+        ensures unchanged { self.new ≡ self.old }
+    {
+        if self.tables.waiting() > most {
+            self.tables.settle_one(&self.region);
+        }
+    }
+
     /// Writes the first `count` keys of the table at or above `lo`, in the order of their bytes, to the front of `into`: each
     /// behind its length in two bytes, low byte first, as the reply to a scan has them. The bytes behind them stay. `count` is
     /// 1 to 32, and `into` has room for so many keys of the greatest length.

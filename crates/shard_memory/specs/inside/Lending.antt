@@ -33,12 +33,13 @@ pub record AreLent (lent : Tickets) (home : Ptr) (owner : ℕ) (blocks : List Ex
   pub few : length (staying lent blocks) ≤ most_blocks
 
 -- what holds between two calls
-pub record IsLending (list : OwnedList) (seat : OwnerState) (own : Pieces) (out back : ℕ) : Type 0 where
+pub record IsLending (list : OwnedList) (seat : OwnerState) (own : Pieces) (out here back : ℕ) : Type 0 where
   pub seat_of : IsSeatOf list seat
   pub walk : seat.walk ≡ []
   pub owner : own.owner ≡ list.owner
   pub lent : AreLent seat.lent own.home own.owner own.blocks
   pub out_is : out ≡ tickets_out seat.lent
+  pub here_is : here ≡ length (staying seat.lent own.blocks)
   pub back_fits : back < 2 ^ 64
 
 -- so many lent blocks are among the free ones again

@@ -103,7 +103,7 @@ impl<'f> ShardMemory<'f> {
         Ok(self.home.lend(&mut self.seat, ticket, piece))
     }
 
-    /// Gives a block of so many bytes, all of them 0, that stays with this shard.
+    /// Gives a block of so many bytes, all of them 0, that stays with this shard. How many are out, `blocks_here` tells.
     ///
     /// # Errors
     /// `TooLarge` above 16,384 bytes, and `NoSpan` where neither the pool of the size's class nor the pages have room.
@@ -132,6 +132,7 @@ impl<'f> ShardMemory<'f> {
         } }
     {
         let piece = self.own.give_block(size)?;
+        self.here += 1;
         Ok(cleared(piece))
     }
 }

@@ -5,7 +5,7 @@ use Rattle.std.proofs.Common.{inl, inr, true≢false, arith, refl, sym, ap, subs
 use Rattle.foreign_list.specs.Blocks.{Block}
 use Rattle.shard_rings.specs.Lanes.{Traffic}
 use Rattle.shard_rings.specs.declared.link.Lane.TheVariants.{Replies, Requests}
-use Rattle.shard_node.specs.Nodes.{NodeState, PeerState}
+use Rattle.shard_node.specs.Nodes.{NodeState}
 use Rattle.shard_node.specs.Turns.{IsEmpty, Raced}
 use Rattle.shard_node.specs.inside.Calm.{IsCalm, WaitsNone}
 use Rattle.shard_node.specs.inside.Moves.{Goes, NonePassed, Pairs, ReplyWaits, SameWith, packets_with}

@@ -147,6 +147,7 @@ impl<'f, L: Link<'f> + Drop, G: Gate + Drop> Shard<'f, L, G> {
         let (store, journal, log) = (&mut self.store, &mut self.journal, &mut self.log);
         do_part(
             store,
+            self.trace,
             command.number,
             &operation,
             part,

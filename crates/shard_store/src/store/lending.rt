@@ -1,5 +1,5 @@
 //! The blocks that a store lends, and the guards under which places stay.
-ghost use Rattle.std.specs.Prelude.{◌≡◌, ◌≢◌, ◌⊎◌, ◌↔◌, ℕ, ◌+◌, ◌-◌, ◌^◌, ◌<◌, ◌≤◌, length, replicate, Some, None, IfOk, IfErr, IfSome, IfNone, IsSome, IsNone, IsTrue, MatchOption};
+ghost use Rattle.std.specs.Prelude.{◌≡◌, ◌≢◌, ◌⊎◌, ◌↔◌, ℕ, false, ◌+◌, ◌-◌, ◌^◌, ◌<◌, ◌≤◌, length, replicate, Some, None, IfOk, IfErr, IfSome, IfNone, IsSome, IsNone, IsTrue, MatchOption};
 ghost use Rattle.layout.specs.Sizes.{greatest_block, tables, tickets};
 ghost use Rattle.rows.specs.Key.{in_table};
 ghost use Rattle.rows.specs.Row.{Row};
@@ -202,6 +202,21 @@ impl<'f> ShardStore<'f> {
         self.cache.unguard(group);
     }
 
+    /// How many guards stand on the group of a table, 0 to 7.
+    pub fn guards(&self, table: u8) -> u32
+        ensures { result ≡ guards_of self.now.region (group_for self.now table) }
+    {
+        let group = self.cache.group_of(table);
+        self.cache.guards(group)
+    }
+
+    /// Whether a guard stands on any group.
+    pub fn is_guarded(&self) -> bool
+        ensures { result ≡ false ↔ IsUnguarded self.now }
+    {
+        self.cache.is_guarded()
+    }
+
     /// Where the row of a table's key stands: in a segment of the table's group. None where no row has the key there.
     pub fn place_of(&self, table: u8, key: &[u8]) -> Option<Place>
         requires table { table < tables }
@@ -220,5 +235,14 @@ impl<'f> ShardStore<'f> {
         ensures { (row : Row) × StandsAt self.now.region place row × (result.now ≡ row.value) }
     {
         self.cache.value_at(place)
+    }
+
+    /// The same, and the tag that the put of the row gave it.
+    pub fn row_at(&self, place: Place) -> (&[u8], u32)
+        requires row { (row : Row) × StandsAt self.now.region place row }
+        requires live { IsSome (live_at self.now.region place) ⊎ (1 ≤ guards_at self.now.region place.segment) }
+        ensures { (row : Row) × StandsAt self.now.region place row × (result.0.now ≡ row.value) × (result.1 ≡ row.number) }
+    {
+        self.cache.row_at(place)
     }
 }

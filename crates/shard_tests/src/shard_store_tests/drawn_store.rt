@@ -4,7 +4,7 @@ ghost use Rattle.layout.specs.Sizes as sizes;
 ghost use Rattle.foreign_list.specs.OwnerSeats.{IsAtRest};
 ghost use Rattle.shard_store.specs.Stores.{IsUnguarded};
 
-use super::HEAD;
+use super::{HEAD, value_of};
 use foreign_list::{Foreign, ForeignBlock, OwnerSeat};
 use layout::{GREATEST_BLOCK, GREATEST_KEY, GREATEST_VALUE, TABLES};
 use shard_store::{EvictedTags, Put, Scanned, ShardStore, Share};
@@ -75,7 +75,7 @@ impl<'f> Drawn<'f> {
 
     // Whether the key of a table has this value, or none.
     pub(super) fn has(&mut self, table: u8, key: &[u8], value: Option<&[u8]>) -> bool {
-        (table as u32) < TABLES && self.store.get(table, key) == value
+        (table as u32) < TABLES && value_of(self.store.get(table, key)) == value
     }
 
     // Whether a row went. None where there is no such table.

@@ -6,12 +6,12 @@ use shard_store::{EvictionCount, Put, ShardStore, Share};
 use std::alloc::AllocError;
 use std::test::Fail;
 
-// Whether the row of a key has this value.
-fn holds(store: &mut ShardStore<'_>, key: &[u8], value: &[u8]) -> bool
+// Whether the row of a key is of this put, and has this value.
+fn holds(store: &mut ShardStore<'_>, key: &[u8], put: u32, value: &[u8]) -> bool
     requires unguarded { IsUnguarded store.old }
     ensures unguarded { IsUnguarded store.new }
 {
-    store.get(0, key) == Some(value)
+    store.get(0, key) == Some((value, put))
 }
 
 #[test]
@@ -22,7 +22,7 @@ fn a_store_is_opened_and_used(rt: HostRuntime) -> Result<(), Fail> {
     };
     let mut gone = EvictionCount::default();
     let stored = store.put(0, b"apple", b"red", 1, &mut gone) == Put::Stored;
-    let is_red = holds(&mut store, b"apple", b"red");
+    let is_red = holds(&mut store, b"apple", 1, b"red");
     assert_eq!(rt; (stored, is_red, gone.count), (true, true, 0));
     assert_eq!(rt; store.rows(), 1);
     assert!(rt; store.is_idle(Share::Reply));

@@ -83,7 +83,7 @@ fn do_part(
         Operation::Get { key } => {
             journal.add(Entry::Done(command.number));
             match store.get(key.table, key.bytes) {
-                Some(value) => values.extend_from_slice(value).is_ok(),
+                Some((value, _)) => values.extend_from_slice(value).is_ok(),
                 None => false,
             }
         }

@@ -1,4 +1,4 @@
-use Rattle.std.proofs.Common.{◌≡◌, ℕ, ◌-◌, List, ◌++◌, length, Some, refl, ap, subst, ◌∙◌, arith}
+use Rattle.std.proofs.Common.{ℕ, ◌-◌, List, ◌++◌, length, Some, refl, ap, subst, ◌∙◌, arith}
 use Rattle.object_log.specs.Contents.{padded}
 use Rattle.regions.specs.Contents.{holding, ChangesAt}
 use Rattle.rows.specs.Row.{size}

@@ -1,4 +1,4 @@
-use Rattle.std.proofs.Common.{◌≡◌, ◌-◌, replicate, ap, ◌∙◌, arith}
+use Rattle.std.proofs.Common.{◌-◌, replicate, ap, ◌∙◌, arith}
 use Rattle.object_log.specs.Contents.{padded}
 use Rattle.object_log.proofs.log.append.Goals as goal
 

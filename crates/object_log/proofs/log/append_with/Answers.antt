@@ -1,4 +1,4 @@
-use Rattle.std.proofs.Common.{◌≡◌, ◌-◌, length, ◌∙◌, arith}
+use Rattle.std.proofs.Common.{◌≡◌, ◌-◌, length, ◌∙◌}
 use Rattle.object_log.specs.Contents.{bytes_of, padded}
 use Rattle.object_log.proofs.Appending.{objects-added, IsSegment-added, content-laid, front-kept}
 use Rattle.object_log.proofs.Contents.{content_long}

@@ -1,4 +1,4 @@
-use Rattle.std.proofs.Common.{◌≡◌, ℕ, List, ◌++◌, length, ap, ◌∙◌, arith}
+use Rattle.std.proofs.Common.{ℕ, List, ◌++◌, length, ap, ◌∙◌, arith}
 use Rattle.object_log.proofs.Contents.{runs_padded}
 use Rattle.object_log.proofs.log.make_content.Goals as goal
 

@@ -1,4 +1,4 @@
-use Rattle.std.proofs.Common.{◌≡◌, ℕ, List, ◌++◌, ap, ◌∙◌, arith}
+use Rattle.std.proofs.Common.{ℕ, List, ◌++◌, ap, ◌∙◌, arith}
 use Rattle.object_log.specs.Contents.{bytes_of, padded}
 use Rattle.object_log.specs.inside.Made.{descriptor_bytes}
 use Rattle.object_log.proofs.log.make_object.Goals as goal

@@ -1,4 +1,4 @@
-use Rattle.std.proofs.Common.{◌≡◌, length, get_or, sym, ap, ◌∙◌, subst, arith}
+use Rattle.std.proofs.Common.{length, get_or, sym, ap, ◌∙◌, subst, arith}
 use Rattle.std.specs.Prelude.{None, Some, IsSome, IfSome, option_map}
 use Rattle.std.proofs.lemmas.List.{get_or-set_other, length-set}
 use Rattle.regions.specs.Contents.{standing_in, item_if_live, size_of, holding, ChangesIn}

@@ -1,9 +1,8 @@
 -- The definitions compute on the example.
-use Rattle.foreign_list.specs.declared.piece_id.PieceId.{PieceId}
 use Rattle.rows.specs.declared.reply_kind.ReplyKind.{ReplyKind}
-use Rattle.std.proofs.Common.{Option, None, IsSome, ℕ, ◌≡◌, List, [], ◌∷◌, refl, arith, rules}
+use Rattle.std.proofs.Common.{Option, IsSome, ℕ, ◌≡◌, List, [], ◌∷◌, refl, arith}
 use Rattle.std.specs.List.{All}
-use Rattle.std.proofs.lemmas.List.Elements.{All-cons, All-head, All-nil, All-replicate}
+use Rattle.std.proofs.lemmas.List.Elements.{All-cons, All-head, All-nil}
 use Rattle.cache_model.specs.declared.entry.Entry.TheVariants.{Done}
 use Rattle.rows.specs.Apply.{Stored}
 use Rattle.foreign_list.specs.Blocks.{Block}
@@ -14,7 +13,7 @@ use Rattle.shard_rings.specs.declared.link.Packet.TheVariants.{Bye}
 use Rattle.shard_node.specs.Nodes.{NodeState}
 use Rattle.shard_node_tests.specs.Examples.{at_owner, packet, put_reply, put_request, of_number_3}
 use Rattle.shard_node.specs.Standing.{InStanding, AsksInOrder, ServesInOrder, RepliesInOrder, LogsWhatCame, SendsEachRequest, SendsEachReply, KnowsItsPlace}
-use Rattle.shard_node.specs.Turns.{HasParted, IsDone}
+use Rattle.shard_node.specs.Turns.{HasParted}
 use Rattle.shard_node_tests.proofs.examples.standing.Goals as goal
 
 one : {X : Type 0} (P : X → Type 0) (x : X) → P x → All P (x ∷ [])

@@ -13,7 +13,7 @@ use Rattle.cache_model.specs.Examples.{put_b}
 use Rattle.shard_node_tests.specs.Examples.{at_start, packet, put_request, of_number_3, to_the_owner}
 use Rattle.shard_parts.specs.declared.stray_packet.StrayPacket.{StrayPacket}
 use Rattle.shard_node.specs.Due.{is_next, number_in}
-use Rattle.shard_node.specs.Turns.{IsStray, HasStray, HasNone, HasParted, IsDone, IsFirstStray}
+use Rattle.shard_node.specs.Turns.{IsStray, HasStray, HasNone, HasParted, IsDone}
 use Rattle.shard_node_tests.proofs.examples.stray.Goals as goal
 
 abbrev link_is : Traffic → Traffic

@@ -1,5 +1,4 @@
 -- The report was checked, and the verdict written.
-use Rattle.std.proofs.Common.{◌∙◌}
 use Rattle.trace_text.specs.Parsed.{trace_in}
 use Rattle.settings.specs.Settings.{view}
 use Rattle.shardcache.proofs.Audited.{ends_verdict}

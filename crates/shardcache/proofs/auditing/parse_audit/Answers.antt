@@ -1,5 +1,5 @@
 -- The bytes are a trace behind its length and a report behind that, or a line is refused.
-use Rattle.std.proofs.Common.{refl, inl, sym, ◌∙◌}
+use Rattle.std.proofs.Common.{inl, sym}
 use Rattle.std.proofs.lemmas.Result.{IfErr-weaker}
 use Rattle.settings.specs.Settings.{view}
 use Rattle.shardcache.proofs.Audited.{reads_audit}

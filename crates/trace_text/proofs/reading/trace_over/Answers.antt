@@ -34,7 +34,7 @@ add-requires-in-loop-route-clause-few c =
 pub loop-route-preserved : goal.loop-route-preserved
 loop-route-preserved c =
     let n = c.args.shards in
-    let bytes = c.args.bytes.items in
+    let bytes = c.args.bytes in
     let commands = c.args.commands in
     let ops = operations bytes commands in
     let to = c.as_slice-route-items.result.now in

@@ -7,6 +7,6 @@ use Rattle.trace_text.proofs.reading.trace_over.Given as goal
 abbrev pub invariant-loop-route : goal.invariant-loop-route
 invariant-loop-route l = record {
   origin : l.origin ≡ l.route-index % l.shards;
-  owned : AreOwned l.shards (take l.route-index (operations l.bytes.items l.fn.commands)) l.owned.counts;
-  issued : AreIssued l.shards (take l.route-index (operations l.bytes.items l.fn.commands)) l.issued.counts;
+  owned : AreOwned l.shards (take l.route-index (operations l.fn.bytes l.fn.commands)) l.owned.counts;
+  issued : AreIssued l.shards (take l.route-index (operations l.fn.bytes l.fn.commands)) l.issued.counts;
 }

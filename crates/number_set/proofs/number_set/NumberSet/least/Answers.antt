@@ -1,6 +1,12 @@
-use Rattle.std.proofs.Common.{◌<◌, refl}
+use Rattle.std.proofs.Common.{◌≡◌, ◌<◌, ◌∙◌, ap, refl, sym}
+use Rattle.number_set.specs.Numbers.{size}
 use Rattle.number_set.proofs.Sets.{missed, found, at-end}
 use Rattle.number_set.proofs.number_set.NumberSet.least.Goals as goal
+
+pub returns-then-self-eq0-clause-none : goal.returns-then-self-eq0-clause-none
+returns-then-self-eq0-clause-none c =
+    let counted : c.self.inside.count ≡ size c.args.self.now = c.self.invariant.counted ∙ ap size c.self.view_is in
+    (λ _. sym counted ∙ c.if-self-eq0.true, λ _. refl)
 
 pub returns-in_err-number-clause-none : goal.returns-in_err-number-clause-none
 returns-in_err-number-clause-none c =

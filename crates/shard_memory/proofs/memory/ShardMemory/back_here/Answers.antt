@@ -1,4 +1,4 @@
-use Rattle.std.proofs.Common.{◌+◌, ◌*◌, List, length, sym, ap, subst, ◌∙◌}
+use Rattle.std.proofs.Common.{◌+◌, ◌*◌, List, length, sym, ap, subst, ◌∙◌, arith}
 use Rattle.layout.specs.Sizes.{page}
 use Rattle.layout.specs.Extents.{Extent}
 use Rattle.raw_range.specs.Memory.{extent_of, remove_extent}
@@ -13,6 +13,12 @@ put_block-requires c =
     let r = subst (λ (s : MemoryState). IsBlockOf s c.args.piece) (sym c.self.view_is) c.requires in
     (r.0, staying_block c.self.inside.seat.lent (extent_of c.args.piece) c.self.inside.own.blocks r.1)
 
+pub overflow_sub-self : goal.overflow_sub-self
+overflow_sub-self c =
+    let r = subst (λ (s : MemoryState). IsBlockOf s c.args.piece) (sym c.self.view_is) c.requires in
+    let less = one_less c.self.inside.seat.lent (page * c.self.inside.own.pages) (extent_of c.args.piece) c.self.inside.own.blocks c.put_block.ensures.disjoint r.1 in
+    let is = c.self.invariant.here_is in omega (arith, less, is)
+
 pub invariant_of-self : goal.invariant_of-self
 invariant_of-self c =
     let r = subst (λ (s : MemoryState). IsBlockOf s c.args.piece) (sym c.self.view_is) c.requires in
@@ -24,6 +30,10 @@ invariant_of-self c =
       lent = same_lent c.self.inside.seat.lent _ _ _ _ _ _ (sym same.0) (sym same.1) (sym c.put_block.ensures.blocks)
           (back_one c.self.inside.seat.lent c.self.inside.own.home c.self.inside.own.owner (page * c.self.inside.own.pages) (extent_of c.args.piece) c.self.inside.own.blocks was.lent c.put_block.ensures.disjoint r.1);
       out_is = was.out_is;
+      here_is =
+          (let less = one_less c.self.inside.seat.lent (page * c.self.inside.own.pages) (extent_of c.args.piece) c.self.inside.own.blocks c.put_block.ensures.disjoint r.1 in
+          let now = ap (λ (xs : List Extent). length (staying c.self.inside.seat.lent xs)) c.put_block.ensures.blocks in
+          let is = was.here_is in omega (arith, less, now, is));
       back_fits = was.back_fits;
     }
 

@@ -1,4 +1,4 @@
-use Rattle.std.proofs.Common.{◌≡◌, ◌*◌, ◌<◌, ◌≤◌, List, ◌∷◌, length, sym, ap, subst, ◌∙◌}
+use Rattle.std.proofs.Common.{◌≡◌, ◌*◌, ◌<◌, ◌≤◌, List, ◌∷◌, length, sym, ap, subst, ◌∙◌, arith}
 use Rattle.std.specs.Prelude.{Contains}
 use Rattle.std.proofs.lemmas.List.{length-replicate}
 use Rattle.layout.specs.Sizes.{page, greatest_block}
@@ -13,19 +13,29 @@ use Rattle.shard_memory.proofs.Lending.{one_staying, given_one, same_lent}
 use Rattle.shard_memory.proofs.memory.ShardMemory.give_here.Goals as goal
 use Rattle.shard_memory.proofs.memory.ShardMemory.give_here.Goals.{After-cleared}
 
+pub overflow_add-self : goal.overflow_add-self
+overflow_add-self c = let few = c.self.invariant.lent.few in let is = c.self.invariant.here_is in omega (arith, few, is)
+
 pub invariant_of-self-2 : goal.invariant_of-self-2
 invariant_of-self-2 c =
     let was = c.self.invariant in
     let e = c.in_ok-piece.ensures in
     let same = e.same in
+    let apart = subst (λ (bs : List Extent). AreDisjoint (page * c.give_block.new.self.pages) bs) e.blocks e.disjoint in
     let few = subst (λ (s : MemoryState). length s.blocks < 1024) (sym c.self.view_is) c.requires.few in record {
       seat_of = was.seat_of;
       walk = was.walk;
       owner = same.1 ∙ was.owner;
       lent = same_lent c.self.inside.seat.lent _ _ _ _ _ _ (sym same.0) (sym same.1) (sym e.blocks)
           (given_one c.self.inside.seat.lent c.self.inside.own.home c.self.inside.own.owner (page * c.give_block.new.self.pages) (extent_of c.in_ok-piece.piece) c.self.inside.own.blocks was.lent
-          (subst (λ (bs : List Extent). AreDisjoint (page * c.give_block.new.self.pages) bs) e.blocks e.disjoint) few);
+          apart few);
       out_is = was.out_is;
+      here_is =
+          (let now = ap (λ (xs : List Extent). length (staying c.self.inside.seat.lent xs)) e.blocks in
+          let one = ap (λ (xs : List Extent). length xs)
+          (one_staying c.self.inside.seat.lent c.self.inside.own.home c.self.inside.own.owner (page * c.give_block.new.self.pages) (extent_of c.in_ok-piece.piece) c.self.inside.own.blocks was.lent
+          apart) in
+          let is = was.here_is in omega (arith, now, one, is));
       back_fits = was.back_fits;
     }
 

@@ -1,4 +1,4 @@
-use Rattle.std.proofs.Common.{◌≡◌, ◌+◌, ◌-◌, ◌*◌, ◌^◌, ◌≤◌, List, set, min, Some, None, sym, ap, subst, ◌∙◌, arith}
+use Rattle.std.proofs.Common.{◌≡◌, ◌+◌, ◌-◌, ◌*◌, ◌^◌, ◌≤◌, List, length, set, min, Some, None, sym, ap, subst, ◌∙◌, arith}
 use Rattle.layout.specs.Sizes.{page, greatest_block}
 use Rattle.layout.specs.Extents.{Extent, AreDisjoint}
 use Rattle.raw_range.specs.Memory.{Lent}
@@ -36,6 +36,9 @@ invariant_of-self-2 c =
           (let more = out_set c.self.inside.seat.lent c.in-Some.ticket None (Some a) idle in
           let new = ap (λ (s : OwnerState). tickets_out s.lent) c.lend.ensures.lent in
           let out = was.out_is in omega (arith, more, new, out));
+      here_is = was.here_is ∙ sym (ap (λ (xs : List Extent). length xs)
+          (ap (λ (s : OwnerState). staying s.lent c.give_block.new.self.blocks) c.lend.ensures.lent ∙ ap (staying (set c.self.inside.seat.lent c.in-Some.ticket (Some a))) c.in_ok-piece.ensures.blocks
+          ∙ still_staying c.self.inside.seat.lent c.in-Some.ticket (page * c.give_block.new.self.pages) a c.self.inside.own.blocks idle disjoint));
       back_fits = was.back_fits;
     }
 

@@ -95,8 +95,8 @@ here : (c : goal.After-longest_value)
     → c.other_than_scans-2.result + c.scans-scans.result ≡ here_parts (trace_in c.args.self.now) c.args.shards c.args.shard
 here c =
     let inside = c.self.inside in
-    let trace = trace_with (version_in inside.bytes.items) (operations inside.bytes.items inside.commands) in
-    let scans = c.scans-scans.ensures.value ∙ count_in inside.bytes.items (λ o. is_scan o.kind) inside.commands in
+    let trace = trace_with (version_in inside.bytes) (operations inside.bytes inside.commands) in
+    let scans = c.scans-scans.ensures.value ∙ count_in inside.bytes (λ o. is_scan o.kind) inside.commands in
     rw (c.requires.parsed_for, ← c.self.view_is, c.other_than_scans-2.ensures, scans)
     (here_parts_are trace inside.shards c.args.shard _ c.self.invariant.owned_are)
 

@@ -8,8 +8,8 @@ pub returns-clause-below : goal.returns-clause-below
 returns-clause-below c =
     let inside = c.self.inside in
     let are = c.self.invariant.routes_are in
-    let many : length inside.routes.items ≡ length inside.commands = ap length are ∙ length-routes inside.shards inside.bytes.items inside.commands in
+    let many : length inside.routes.items ≡ length inside.commands = ap length are ∙ length-routes inside.shards inside.bytes inside.commands in
     let there : c.args.at < length inside.commands = rw (← c.self.view_is) at c.requires in
     rw (← c.self.view_is, c.index.ensures)
-    (owner_below inside.shards (operations inside.bytes.items inside.commands) inside.routes.items c.args.at c.index.result.now
+    (owner_below inside.shards (operations inside.bytes inside.commands) inside.routes.items c.args.at c.index.result.now
     c.self.invariant.consistent.some_shards are (omega (arith, many, there)))

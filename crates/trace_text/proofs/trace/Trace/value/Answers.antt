@@ -1,0 +1,19 @@
+-- Each command lies in the bytes.
+use Rattle.std.proofs.Common.{arith}
+use Rattle.std.specs.List.{Contains}
+use Rattle.std.proofs.lemmas.List.Elements.{All-contains}
+use Rattle.trace_text.specs.Parsed.{LiesWithin}
+use Rattle.trace_text.proofs.trace.Trace.value.Goals as goal
+
+pub part-requires : goal.part-requires
+part-requires c =
+    let there : Contains c.self.inside.commands c.args.command.now = rw (← c.self.view_is) at c.requires in
+    (All-contains (LiesWithin c.self.inside.bytes) c.self.inside.commands c.args.command.now c.self.invariant.consistent.spelled.within there).value
+
+pub returns-clause-most : goal.returns-clause-most
+returns-clause-most c =
+    let there : Contains c.self.inside.commands c.args.command.now = rw (← c.self.view_is) at c.requires in
+    let lies = All-contains (LiesWithin c.self.inside.bytes) c.self.inside.commands c.args.command.now c.self.invariant.consistent.spelled.within there in
+    let len = c.part.ensures.len in
+    let bound = lies.value_most in
+    omega (arith, len, bound)
