@@ -1,7 +1,7 @@
 -- No part is answered, and all room is left.
 use Rattle.std.proofs.Common.{◌≡◌, arith, refl}
 use Rattle.run_log.proofs.ReplyLists.{unanswered}
-use Rattle.run_log.proofs.reply_log.ReplyLog.new.Goals as goal
+use Rattle.run_log.proofs.reply_log.ReplyLog.over.Goals as goal
 
 pub returns : goal.returns
 returns c =

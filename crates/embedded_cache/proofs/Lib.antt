@@ -1,0 +1,4 @@
+pub mod Gone
+pub mod Kept
+pub mod Putting
+pub mod Telling

@@ -1,0 +1,5 @@
+pub mod States
+pub mod Puts
+pub mod Lendings
+pub mod Lends
+pub mod inside

@@ -1,0 +1,3 @@
+mod Empty
+mod FirstRow
+mod Only

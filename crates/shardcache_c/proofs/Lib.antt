@@ -1,0 +1,3 @@
+mod Closed
+mod Opens
+mod Words

@@ -1,0 +1,6 @@
+use Rattle.std.proofs.Common.{refl, ap}
+use Rattle.shardcache_c.specs.Handles.{cache_over}
+use Rattle.shardcache_c.proofs.exports.guards.guard.Goals as goal
+
+pub returns-clause-done : goal.returns-clause-done
+returns-clause-done c = λ done. (c.in-Some.opened.cache, c.guard.new.self, ap cache_over c.in-Some.is, refl, c.guard.ensures.guards)

@@ -1,0 +1,11 @@
+use Rattle.std.proofs.Common.{refl, ap}
+use Rattle.shardcache_c.specs.Handles.{cache_over}
+use Rattle.shardcache_c.proofs.Opens.{stays}
+use Rattle.shardcache_c.proofs.exports.scans.scan_keys.Goals as goal
+
+pub returns-clause-done : goal.returns-clause-done
+returns-clause-done c = λ done.
+    (c.in-Some.opened.cache, ap cache_over c.in-Some.is, c.scan-scanned.ensures.count, c.scan-scanned.ensures.keys)
+
+pub returns-clause-unchanged : goal.returns-clause-unchanged
+returns-clause-unchanged c = stays c.args.shard.now c.in-Some.opened _ c.in-Some.is refl c.scan-scanned.ensures.unchanged

@@ -1,0 +1,7 @@
+//! The functions that C calls. Each answers a code. Where that is not `DONE`, nothing happened but where it is said.
+mod guards;
+mod looks;
+mod opening;
+mod scans;
+mod stats;
+mod storing;

@@ -1,0 +1,81 @@
+//! Keys in their order.
+ghost use Rattle.std.specs.Prelude.{◌≡◌, Some, length, take};
+ghost use Rattle.rows.specs.Key.{in_table};
+ghost use Rattle.rows.specs.KeyBody.{AreKeys};
+ghost use Rattle.rows.specs.Apply as apply;
+ghost use Rattle.embedded_cache.specs.States.{EmbeddedState};
+ghost use Rattle.shardcache_c.specs.Handles.{cache_in, cache_of};
+
+use crate::codes::{BAD_COUNT, BAD_TABLE, CLOSED, DONE, GUARDED, SHORT};
+use crate::handle::Handle;
+use crate::shard::Shard;
+use layout::{KEY_ROOM, MOST_KEYS, TABLES};
+use std::alloc::Global;
+
+/// What a scan wrote.
+#[repr(C)]
+#[derive(Drop)]
+pub struct Scan {
+    pub keys: u32,
+    pub bytes: u32,
+}
+
+/// Writes the first keys of a table at or above one, each behind its length in two bytes, low byte first.
+#[unsafe(no_mangle)]
+pub extern "C" fn shardcache_scan(
+    alloc: Global,
+    handle: &mut Handle,
+    table: u8,
+    from: &[u8],
+    count: u32,
+    into: &mut [u8],
+    did: &mut Scan,
+) -> u32
+    ensures done { result ≡ 0 → (old : EmbeddedState) × (cache_of handle.old.kept.value ≡ Some old)
+        × (did.new.keys ≡ length (apply.scanned (in_table table from.now) count old.store.rows))
+        × AreKeys (take did.new.bytes into.new) (apply.scanned (in_table table from.now) count old.store.rows) }
+    ensures unchanged { handle.new.kept.value ≡ handle.old.kept.value }
+{
+    let Some(mut shard) = handle.take(alloc) else {
+        return CLOSED;
+    };
+    let code = scan_keys(&mut shard, table, from, count, into, did);
+    handle.put(shard);
+    code
+}
+
+fn scan_keys(
+    shard: &mut Shard,
+    table: u8,
+    from: &[u8],
+    count: u32,
+    into: &mut [u8],
+    did: &mut Scan,
+) -> u32
+    ensures done { result ≡ 0 → (old : EmbeddedState) × (cache_in shard.old ≡ Some old)
+        × (did.new.keys ≡ length (apply.scanned (in_table table from.now) count old.store.rows))
+        × AreKeys (take did.new.bytes into.new) (apply.scanned (in_table table from.now) count old.store.rows) }
+    ensures unchanged { shard.new ≡ shard.old }
+{
+    if table as u32 >= TABLES {
+        return BAD_TABLE;
+    }
+    if count == 0 || count > MOST_KEYS {
+        return BAD_COUNT;
+    }
+    if into.len() < (KEY_ROOM * count) as usize {
+        return SHORT;
+    }
+    let Some(opened) = &mut shard.opened else {
+        return CLOSED;
+    };
+    if opened.cache.is_guarded() {
+        return GUARDED;
+    }
+    let scanned = opened.cache.scan(table, from, count, into);
+    *did = Scan {
+        keys: scanned.keys,
+        bytes: scanned.bytes,
+    };
+    DONE
+}
