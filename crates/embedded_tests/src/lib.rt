@@ -9,9 +9,13 @@ mod guards;
 #[cfg(test)]
 mod list;
 #[cfg(test)]
+mod mailboxes;
+#[cfg(test)]
 mod puts;
 #[cfg(test)]
 mod steps;
+#[cfg(test)]
+mod threads;
 #[cfg(test)]
 mod trial;
 #[cfg(test)]

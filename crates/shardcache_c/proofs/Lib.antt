@@ -1,3 +1,5 @@
 mod Closed
+mod LeaseWords
+mod MailboxWords
 mod Opens
 mod Words

@@ -1,2 +1,5 @@
 pub mod Handles
 pub mod Keeping
+pub mod LeaseKeeping
+pub mod Leases
+pub mod MailboxKeeping

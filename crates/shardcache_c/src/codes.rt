@@ -44,3 +44,15 @@ pub(crate) const UNGUARDED: u32 = 14;
 
 /// A block is lent.
 pub(crate) const BLOCKS_OUT: u32 = 15;
+
+/// As many blocks are out as can be.
+pub(crate) const NO_TICKET: u32 = 16;
+
+/// Another thread's call came between: the header's own functions try again.
+pub(crate) const RACED: u32 = 17;
+
+/// No place of the queue is free.
+pub(crate) const FULL: u32 = 18;
+
+/// Nothing is in the queue.
+pub(crate) const EMPTY: u32 = 19;

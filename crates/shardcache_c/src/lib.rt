@@ -1,4 +1,4 @@
-//! A row cache for programs in C and C++: `examples/embed/include/shardcache.h` says what each function does.
+//! A row cache for programs in C and C++: `include/shardcache.h` says what each function does.
 #![tactic(auto)]
 
 mod bare;
@@ -6,5 +6,10 @@ mod codes;
 mod exports;
 mod handle;
 mod kept;
+mod kept_lease;
+mod kept_mailbox;
+mod lease;
+mod lease_handle;
+mod mailbox_handle;
 mod opening;
 mod shard;

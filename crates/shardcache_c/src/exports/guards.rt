@@ -1,5 +1,5 @@
 //! Guards, and compaction.
-ghost use Rattle.std.specs.Prelude.{◌≡◌, ◌≢◌, ◌+◌, Some};
+ghost use Rattle.std.specs.Prelude.{◌≡◌, ◌≢◌, ◌+◌, ◌-◌, ◌≤◌, Some};
 ghost use Rattle.regions.specs.Shapes.{guards_of};
 ghost use Rattle.shard_store.specs.Stores.{group_for, with_guards};
 ghost use Rattle.embedded_cache.specs.States.{EmbeddedState};
@@ -54,6 +54,9 @@ fn guard(shard: &mut Shard, table: u8) -> u32
 /// One guard less.
 #[unsafe(no_mangle)]
 pub extern "C" fn shardcache_unguard(alloc: Global, handle: &mut Handle, table: u8) -> u32
+    ensures done { result ≡ 0 → (old : EmbeddedState) × (new : EmbeddedState) × (cache_of handle.old.kept.value ≡ Some old)
+        × (cache_of handle.new.kept.value ≡ Some new) × (new.store ≡ with_guards old.store (group_for old.store table)
+        (guards_of old.store.region (group_for old.store table) - 1)) × (1 ≤ guards_of old.store.region (group_for old.store table)) }
     ensures refused { result ≢ 0 → handle.new.kept.value ≡ handle.old.kept.value }
 {
     let Some(mut shard) = handle.take(alloc) else {
@@ -65,6 +68,9 @@ pub extern "C" fn shardcache_unguard(alloc: Global, handle: &mut Handle, table: 
 }
 
 fn unguard(shard: &mut Shard, table: u8) -> u32
+    ensures done { result ≡ 0 → (old : EmbeddedState) × (new : EmbeddedState) × (cache_in shard.old ≡ Some old)
+        × (cache_in shard.new ≡ Some new) × (new.store ≡ with_guards old.store (group_for old.store table)
+        (guards_of old.store.region (group_for old.store table) - 1)) × (1 ≤ guards_of old.store.region (group_for old.store table)) }
     ensures refused { result ≢ 0 → shard.new ≡ shard.old }
 {
     if table as u32 >= TABLES {
