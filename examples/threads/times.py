@@ -26,7 +26,7 @@ def commands_a_second(program, *words):
     if ran.returncode:
         sys.exit(f"{program} {' '.join(words)}: {ran.stderr}")
     told = ran.stdout.split()
-    return int(told[told.index("commands") + 1])
+    return int(told[told.index("second") + 1])
 
 
 def row(threads, foreign, rounds):
