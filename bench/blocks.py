@@ -9,12 +9,17 @@ mimalloc, each with BLOCKS blocks (default 1,000,000). The least time by the clo
 from timing import allocators, compiled, in_turn, numbers, timed
 
 
-def main():
-    blocks, runs = numbers(__doc__, 1_000_000, 7)
+def measured(blocks=1_000_000, runs=7):
+    """By allocator, nanoseconds a block."""
     commands = {"lent": [timed("blocks", "1000"), "blocks"], **allocators([compiled("malloc_blocks")])}
     least = in_turn(runs, *[[*words, str(blocks)] for words in commands.values()])
-    for name, spent in zip(commands, least):
-        print(f"{name:<10} {1e9 * spent.clock / blocks:7.1f} ns a block")
+    return {name: 1e9 * spent.clock / blocks for name, spent in zip(commands, least)}
 
 
-main()
+def main():
+    for name, spent in measured(*numbers(__doc__, 1_000_000, 7)).items():
+        print(f"{name:<10} {spent:7.1f} ns a block")
+
+
+if __name__ == "__main__":
+    main()

@@ -28,8 +28,8 @@ def moved_by(words):
     return int(re.search(r"moved (\d+)", ran.stdout)[1])
 
 
-def main():
-    segments, runs = numbers(__doc__, 1_000, 5)
+def measured(segments=1_000, runs=5):
+    """Of each length of a value and of both, the size of an object, how many moved, and nanoseconds for each."""
     commands = {"compact": [timed(*BUILDS), "compaction"], "memcpy": [compiled("copy_objects")]}
     for length in (100, 1_000, 10_000):
         for name, words in commands.items():
@@ -37,11 +37,17 @@ def main():
             moved = moved_by([*words, "1", "10000000"])
             rest, both = nanoseconds(runs, [*words, "0"], [*words, "1"])
             size, spent = size_of(bytes(KEY_BYTES), bytes(length)), both - rest
-            print(
-                f"{name:<8} value {length:5d}, object {size:5d} bytes: {moved:7d} moved, "
-                f"{spent / moved:7.1f} ns each, {spent / moved / size:6.3f} ns a byte",
-                flush=True,
-            )
+            yield name, length, size, moved, spent / moved
 
 
-main()
+def main():
+    for name, length, size, moved, spent in measured(*numbers(__doc__, 1_000, 5)):
+        print(
+            f"{name:<8} value {length:5d}, object {size:5d} bytes: {moved:7d} moved, "
+            f"{spent:7.1f} ns each, {spent / size:6.3f} ns a byte",
+            flush=True,
+        )
+
+
+if __name__ == "__main__":
+    main()

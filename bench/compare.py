@@ -20,17 +20,16 @@ and how many rows went, and how many commands were answered alike.
 
 With --audit the program's audits of its own reports are timed beside the runs that wrote them.
 
-With --write all three tables are made and put into docs/SPEED.md, between the marks that stand there. No other work
-should be on the machine.
+With --write all three tables are made, that of version 2 with one shard, and put into docs/SPEED.md, between the marks
+that stand there. No other work should be on the machine.
 """
-import datetime
 import filecmp
 import os
 import re
 import sys
 
 from cache_model import bound_of
-from timing import LARGE_PAGES, OUT, in_turn, least, program, put_between, run, trace_of, unproved
+from timing import LARGE_PAGES, OUT, in_turn, least, machine, program, put_between, run, trace_of, unproved
 
 CASES = ["gen:1:8192", "small:1:8192", "manykeys:1:16384", "evict:1:8192", "churn:1:8192", "paths:1:32768", "scans:1:8192"]
 CASES += ["gen:2:8192", "small:2:8192", "manykeys:2:8192", "evict:2:4096", "paths:2:16384"]
@@ -46,11 +45,8 @@ AIMS = {
     "paths": ("1.1", "1.1", "0.95"),
 }
 
-HEAD = "| Trace | Shards | Time | Ratio (aim) | Clock | Ratio (aim) | Beside one shard | Memory | Ratio (aim) | Rows that went |"
-TABLES_HEAD = (
-    "| Trace | Shards | Time | Ratio | Clock | Ratio | Memory | Ratio "
-    "| Gets that found a row | Rows that went | Answered alike |"
-)
+HEAD = "| Trace | Shards | Time, ratio (aim) | Clock, ratio (aim) | Beside one shard | Memory, ratio (aim) | Rows that went |"
+TABLES_HEAD = "| Trace | Shards | Time, ratio | Clock, ratio | Memory, ratio | Gets that found a row | Rows that went | Answered alike |"
 # What is audited: a trace, the part of it that fits one input with its report, and what an audit is to take at most.
 AUDITS = [("gen", 0.8, "3 times the run"), ("short", 1, "10 s")]
 AUDITS_HEAD = "| Trace | Part | Trace and report | Run | Audit | Ratio | Aim |"
@@ -96,9 +92,9 @@ def compare_tables(case, rounds, path):
     spent = zip(*[[run(words, trace) for trace in traces] for _ in range(rounds)])
     tables, other = (least(own) for own in spent)
     return (
-        f"| `{name}` | {shards} | {tables.processor:.2f} s | {ratio(tables.processor, other.processor)} "
-        f"| {tables.clock:.2f} s | {ratio(tables.clock, other.clock)} "
-        f"| {tables.memory:.0f} MiB | {ratio(tables.memory, other.memory)} "
+        f"| `{name}` | {shards} | {tables.processor:.2f} s, {ratio(tables.processor, other.processor)} "
+        f"| {tables.clock:.2f} s, {ratio(tables.clock, other.clock)} "
+        f"| {tables.memory:.0f} MiB, {ratio(tables.memory, other.memory)} "
         f"| {hits[0]}, {hits[1]} | {gone[0]}, {gone[1]} | {alike} of {count} |"
     )
 
@@ -122,10 +118,11 @@ def compare(case, rounds, programs):
     time_aim, memory_aim, clock_aim = AIMS.get(name, ("", "", ""))
     one, four = shards == "1", shards == "4"
     beside_one = f"{proved.clock / alone[0].clock:.2f} (1.0)" if alone else ""
+    went = f"{gone[0]}, {gone[1]}" if any(gone) else ""
     return (
-        f"| `{name}` | {shards} | {proved.processor:.2f} s | {ratio(proved.processor, other.processor, time_aim * one)} "
-        f"| {proved.clock:.2f} s | {ratio(proved.clock, other.clock, clock_aim * four)} | {beside_one} "
-        f"| {proved.memory:.0f} MiB | {ratio(proved.memory, other.memory, memory_aim * one)} | {gone[0]}, {gone[1]} |"
+        f"| `{name}` | {shards} | {proved.processor:.2f} s, {ratio(proved.processor, other.processor, time_aim * one)} "
+        f"| {proved.clock:.2f} s, {ratio(proved.clock, other.clock, clock_aim * four)} | {beside_one} "
+        f"| {proved.memory:.0f} MiB, {ratio(proved.memory, other.memory, memory_aim * one)} | {went} |"
     )
 
 
@@ -179,14 +176,14 @@ def main():
         sys.exit(__doc__)
     os.environ["GLIBC_TUNABLES"] = "" if small_pages else LARGE_PAGES
     own = program()
-    parts = [f"Least of {rounds} runs in turn, {datetime.date.today()}, {os.cpu_count()} processors.\n"]
+    parts = [f"{machine()} Least of {rounds} runs in turn.\n"]
     if not tables and not audits:
         other = unproved()
         parts.append(table(HEAD, cases or CASES, lambda case: compare(case, rounds, [own, other])))
     if writes:
         parts.append("The same traces in version 2, with their keys in eight tables, beside version 1:\n")
     if tables or writes:
-        in_tables = cases or [it for it in CASES if not it.startswith("paths:")]
+        in_tables = cases or [it for it in CASES if not it.startswith("paths:") and (not writes or it.split(":")[1] == "1")]
         parts.append(table(TABLES_HEAD, in_tables, lambda case: compare_tables(case, rounds, own)))
     if writes:
         parts.append("Audits of the program's own reports, beside the runs that wrote them, with one shard:\n")

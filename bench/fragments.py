@@ -22,8 +22,8 @@ def most_values(segments, length):
     return (segments - 2) * DENSE // (full * (OVERHEAD + PART) + (OVERHEAD + rest + 7) // 8 * 8)
 
 
-def main():
-    mebibytes, runs = numbers(__doc__, 8, 5)
+def measured(mebibytes=8, runs=5):
+    """Of each step and length, how many values there are, and gigabytes a second of the store and of memcpy."""
     segments, program = mebibytes * 8, timed(*BUILDS)
     for length in (65_536, 1_048_576):
         most, room = most_values(segments, length), segments * SEGMENT // length
@@ -39,11 +39,17 @@ def main():
             commands = [[*it, count] for it in (words, others) for count in ("0", str(times))]
             rest, both, none, copied = nanoseconds(runs, *commands)
             moved, store, memcpy = times * length, both - rest, copied - none
-            print(
-                f"{name:<11} {names:4d} values of {length:7d} bytes: {moved / store:6.2f} GB a second, "
-                f"memcpy {moved / memcpy:6.2f}, ratio {memcpy / store:5.2f}",
-                flush=True,
-            )
+            yield name, names, length, moved / store, moved / memcpy
 
 
-main()
+def main():
+    for name, names, length, store, memcpy in measured(*numbers(__doc__, 8, 5)):
+        print(
+            f"{name:<11} {names:4d} values of {length:7d} bytes: {store:6.2f} GB a second, "
+            f"memcpy {memcpy:6.2f}, ratio {store / memcpy:5.2f}",
+            flush=True,
+        )
+
+
+if __name__ == "__main__":
+    main()

@@ -1,11 +1,10 @@
 #!/usr/bin/env python3
-"""gate_times.py [first|gate]: times the first command, the gate, or both, one after the other, and writes docs/GATE.md.
+"""gate_times.py [first|gate]: times the first command, the gate, or both, one after the other, and writes docs/GATE.md and README's times.
 
 Each runs in a fresh clone of what is committed here, and takes nothing that an earlier run kept. Its processors' time in all is what the system
 counts for it and its children. That of each crate is read off /proc as the provers run, twice a second, so a process lacks up to half a second.
 """
 import collections
-import datetime
 import os
 import re
 import subprocess
@@ -14,9 +13,13 @@ import tempfile
 import threading
 import time
 
-TOP = os.path.dirname(os.path.dirname(os.path.realpath(__file__)))
+from timing import TOP, machine
+
 PAGE = f"{TOP}/docs/GATE.md"
+FIRST_PAGE = f"{TOP}/README.md"
 KINDS = ("proof", "tests", "start", "edits")
+# How many crates have a line of their own; the others have one together.
+SHOWN = 11
 TICKS = os.sysconf("SC_CLK_TCK")
 
 
@@ -88,8 +91,8 @@ def first_command(clone):
     """The section on the first command."""
     lines, clock, processors, sampler = timed(["./shardcache", "run"], clone, {"SHARDCACHE_ANEW": "1"})
     proved = [(at, told[1]) for at, line in lines for told in [re.match(r"shardcache: .* minutes: (\w+) is proved", line)] if told]
-    rows = [f"| `{name}` | {minutes(sampler.spent[name, 'proof'])} | {at:.1f} |" for at, name in proved]
-    head = f"`./shardcache run` took **{clock:.0f} minutes** by the clock and {processors:.0f} of processors. In the order in which they were proved:"
+    rows = [f"| `{name}` | {minutes(sampler.spent[name, 'proof'])} | {at:.1f} |" for at, name in proved[-SHOWN:]]
+    head = f"`./shardcache run` took **{clock:.0f} minutes** by the clock and {processors:.0f} of processors, for {len(proved)} crates. The last ones:"
     return "\n".join([head, "", "| Crate | Minutes of a processor | Proved at minute |", "|---|---|---|", *rows])
 
 
@@ -98,31 +101,31 @@ def whole_gate(clone):
     lines, clock, processors, sampler = timed(["rt", "ci", "--anew"], clone)
     spent = lambda name: sum(sampler.spent[name, kind] for kind in KINDS)
     names = sorted({name for name, _ in sampler.spent}, key=lambda it: -spent(it))
-    rows = [f"| `{it}` | {' | '.join(minutes(sampler.spent[it, kind]) for kind in KINDS)} | {sampler.edits[it] or ''} | {minutes(spent(it))} |" for it in names]
-    sums = [minutes(sum(sampler.spent[it, kind] for it in names)) for kind in KINDS]
-    rows.append(f"| all | {' | '.join(sums)} | {sum(sampler.edits.values())} | {minutes(sum(map(spent, names)))} |")
+
+    def row(what, those):
+        sums = [minutes(sum(sampler.spent[it, kind] for it in those)) for kind in KINDS]
+        return f"| {what} | {' | '.join(sums)} | {sum(sampler.edits[it] for it in those) or ''} | {minutes(sum(map(spent, those)))} |"
+
+    rows = [row(f"`{it}`", [it]) for it in names[:SHOWN]]
+    rows += [row(f"{len(names) - SHOWN} others", names[SHOWN:]), row("all", names)]
     head = f"`rt ci --anew` took **{clock:.0f} minutes** by the clock and **{processors:.0f} of processors**; its last line was `{lines[-1][1]}`."
-    more = "By crate, in minutes of a processor, the greatest first; the checks that a crate's edits begin with are a column of their own:"
+    more = "By crate, in minutes of a processor; the checks that a crate's edits begin with are a column of their own:"
     return "\n".join([head, "", more, "", "| Crate | Proof | Tests | Start of its edits | Edits | Tries | All |", "|---|---|---|---|---|---|---|", *rows])
 
 
 SECTIONS = {"first": ("The first command", first_command), "gate": ("The gate", whole_gate)}
-HEAD = """# What the first command and the gate take
+# What stands behind the times, and is kept as it is.
+PLANTED = "What `rt plant` lets through"
+HEAD = """# What the gate takes, and what it lets through
 
-Written by `bench/gate.sh`, which runs each from nothing in a fresh clone with nothing else on the machine. A crate's figures are read off its
-processes as they run; the sums in bold are the system's own.
+The times are written by `bench/gate.sh`, which runs each from nothing in a fresh clone with nothing else on the machine. A crate's figures are read
+off its processes as they run; the sums in bold are the system's own.
 """
-
-
-def machine():
-    """Where and when, in one line."""
-    with open("/proc/cpuinfo", encoding="utf-8") as file:
-        model = re.search(r"model name\s*: (.*)", file.read())[1]
-    with open("/proc/meminfo", encoding="utf-8") as file:
-        memory = int(re.search(r"MemTotal:\s+(\d+)", file.read())[1]) / 1048576
-    told = lambda *words: subprocess.run(words, cwd=TOP, stdout=subprocess.PIPE, text=True, check=True).stdout.split()[0]
-    kit, commit = told("rt", "version"), told("git", "rev-parse", "--short", "HEAD")
-    return f"On {datetime.date.today()}, {os.cpu_count()} processors ({model}), {memory:.0f} GB, {kit}, commit {commit}."
+TIMES = ("<!-- times -->\n", "<!-- /times -->")
+ROWS = {
+    "first": ("`./shardcache run`", "proves the program's crates, builds it, runs it"),
+    "gate": ("`.ci/run`, or `rt ci`", "proves every crate, tries wrong bodies, runs all tests"),
+}
 
 
 def kept_section(title):
@@ -130,6 +133,18 @@ def kept_section(title):
     with open(PAGE, encoding="utf-8") as file:
         found = re.search(rf"^## {title}\n\n(.*?)(?=^## |\Z)", file.read(), re.M | re.S)
     return found[1].strip() if found else "Not timed."
+
+
+def write_times(texts):
+    """Puts the times into the first page."""
+    lines = ["", "| Command | What it does | From nothing, by the clock |", "|---|---|---|"]
+    for name, text in texts.items():
+        clock, processors = (re.search(pattern, text)[1] for pattern in (r"\*\*(\d+) minutes\*\* by the clock", r"and \**(\d+) of processors"))
+        lines.append(f"| {' | '.join(ROWS[name])} | {clock} minutes, {processors} of processors |")
+    with open(FIRST_PAGE, encoding="utf-8") as file:
+        front, rest = file.read().split(TIMES[0])
+    with open(FIRST_PAGE, "w", encoding="utf-8") as file:
+        file.write(front + TIMES[0] + "\n".join([*lines, "", ""]) + TIMES[1] + rest.split(TIMES[1], 1)[1])
 
 
 def main():
@@ -142,8 +157,11 @@ def main():
             subprocess.run(["git", "clone", "-q", TOP, f"{room}/clone"], check=True)
             told = f"{machine()} {call(f'{room}/clone')}"
         texts = {it: told if it == name else kept_section(SECTIONS[it][0]) for it in SECTIONS}
+        sections = [*[(SECTIONS[it][0], texts[it]) for it in SECTIONS], (PLANTED, kept_section(PLANTED))]
         with open(PAGE, "w", encoding="utf-8") as file:
-            file.write("\n".join([HEAD, *[f"## {SECTIONS[it][0]}\n\n{texts[it]}\n" for it in SECTIONS]]))
+            file.write("\n".join([HEAD, *[f"## {title}\n\n{text}\n" for title, text in sections]]))
+        write_times(texts)
 
 
-main()
+if __name__ == "__main__":
+    main()

@@ -17,33 +17,39 @@ KINDS = ("random", "ascending", "descending", "prefix12", "prefix200", "mixed")
 MOST_IN_NODES = 300_000
 
 
-def print_steps(name, kind, rows, runs, words):
-    """Prints a line: the time of each step."""
+def steps(name, kind, rows, runs, words):
+    """The nanoseconds of each step."""
     more = ["nodes"] if name == "nodes" else []
     time_of = lambda step: nanoseconds(runs, [*words, kind, str(rows), step, *more])[0]
-    show = lambda step, spent: print(f" {step} {spent / rows:5.0f}", end="", flush=True)
-    print(f"{name:<6} {kind:<10}", end="", flush=True)
     before = time_of("keys")
     for step in ("insert", "find", "remove"):
         spent = time_of(step)
-        show(step, spent - before)
+        yield step, (spent - before) / rows
         before = spent
     if name in ("nodes", "string"):
         before = time_of("insert")
-        show("range", time_of("range") - before)
-    print(" ns", flush=True)
+        yield "range", (time_of("range") - before) / rows
+
+
+def measured(rows=500_000, runs=5, kinds=KINDS):
+    """Of each index and kind of keys, the nanoseconds of its steps, as they come."""
+    index, maps = [timed("index", "random", "1000", "remove"), "index"], compiled("index_maps")
+    os.environ["GLIBC_TUNABLES"] = f"{LARGE_PAGES}:glibc.malloc.mmap_threshold=33554432"
+    for kind in kinds:
+        for name, words in (("index", index), ("map", [maps, "map"]), ("hash", [maps, "hash"])):
+            yield name, kind, steps(name, kind, rows, runs, words)
+    for kind in kinds:
+        for name, words in (("nodes", index), ("string", [maps, "string"])):
+            yield name, kind, steps(name, kind, min(rows, MOST_IN_NODES), runs, words)
 
 
 def main():
-    rows, runs = numbers(__doc__, 500_000, 5)
-    index, maps = [timed("index", "random", "1000", "remove"), "index"], compiled("index_maps")
-    os.environ["GLIBC_TUNABLES"] = f"{LARGE_PAGES}:glibc.malloc.mmap_threshold=33554432"
-    for kind in KINDS:
-        for name, words in (("index", index), ("map", [maps, "map"]), ("hash", [maps, "hash"])):
-            print_steps(name, kind, rows, runs, words)
-    for kind in KINDS:
-        for name, words in (("nodes", index), ("string", [maps, "string"])):
-            print_steps(name, kind, min(rows, MOST_IN_NODES), runs, words)
+    for name, kind, spent in measured(*numbers(__doc__, 500_000, 5)):
+        print(f"{name:<6} {kind:<10}", end="", flush=True)
+        for step, nanos in spent:
+            print(f" {step} {nanos:5.0f}", end="", flush=True)
+        print(" ns", flush=True)
 
 
-main()
+if __name__ == "__main__":
+    main()

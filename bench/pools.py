@@ -13,18 +13,20 @@ from timing import allocators, compiled, nanoseconds, numbers, timed
 OBJECTS = 400_000
 
 
-def main():
-    rounds, runs = numbers(__doc__, 312_500, 5)
+def measured(rounds=312_500, runs=5):
+    """By allocator, nanoseconds a pair, nested and replaced at random."""
     pairs = rounds * 32
     commands = {"pools": [timed("pools", "100", "20", "50"), "pools"], **allocators([compiled("malloc_pairs")])}
     for name, words in commands.items():
         steps = ((rounds, 0, 0), (0, 0, 0), (0, OBJECTS, pairs), (0, OBJECTS, 0))
         nested, empty, replaced, filled = (nanoseconds(runs, [*words, *map(str, step)])[0] for step in steps)
-        print(
-            f"{name:<10} nested {(nested - empty) / pairs:6.1f} ns a pair, "
-            f"replaced at random {(replaced - filled) / pairs:6.1f} ns",
-            flush=True,
-        )
+        yield name, (nested - empty) / pairs, (replaced - filled) / pairs
 
 
-main()
+def main():
+    for name, nested, replaced in measured(*numbers(__doc__, 312_500, 5)):
+        print(f"{name:<10} nested {nested:6.1f} ns a pair, replaced at random {replaced:6.1f} ns", flush=True)
+
+
+if __name__ == "__main__":
+    main()

@@ -29,7 +29,7 @@ PARTS = {
 }
 SYSTEM, TURNS = "the system: first touches of pages, reading, giving back", "turns, and what is compiled into them; else"
 MARKS = ("<!-- written by bench/profile.py --write -->\n", "<!-- so far -->\n")
-MOST, HERTZ = 6, 2_000
+MOST, HERTZ = 3, 2_000
 
 
 def samples(path, trace, pages):
@@ -55,7 +55,7 @@ def part_of(symbol, is_system):
 
 def short(symbol):
     """The name of a function without what it was made for."""
-    return re.sub(r"::<.*>|_evex_unaligned_erms", "", symbol)
+    return re.sub(r"::<.*>|_(evex|avx512)_unaligned_erms", "", symbol)
 
 
 def main():

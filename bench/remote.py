@@ -37,15 +37,21 @@ def least(runs, words, text):
         return nanoseconds(runs, words, source=file.name)[0]
 
 
-def main():
-    gets, runs = numbers(__doc__, 500_000, 5)
+def measured(gets=500_000, runs=5):
+    """By number of shards, nanoseconds a get of its own shard's rows, and of another's."""
     built = program()
     os.environ["GLIBC_TUNABLES"] = LARGE_PAGES
     for shards in (2, 4):
         words = [built, "run", "--shards", str(shards)]
         puts = least(runs, words, trace(shards, 0, False))
         here, there = ((least(runs, words, trace(shards, gets, remote)) - puts) / gets for remote in (False, True))
+        yield shards, here, there
+
+
+def main():
+    for shards, here, there in measured(*numbers(__doc__, 500_000, 5)):
         print(f"{shards} shards: {here:.0f} ns a get here, {there:.0f} ns a get of another shard", flush=True)
 
 
-main()
+if __name__ == "__main__":
+    main()

@@ -17,8 +17,8 @@ import sys
 from timing import LARGE_PAGES, OUT, in_turn, numbers, program, run, trace_of, unproved
 
 
-def main():
-    runs, pages = numbers(__doc__, 7, 8_192)
+def measured(runs=7, pages=8_192):
+    """Of each mode and input, what the program spent and what the unproved one did."""
     programs = {"proved": program(), "unproved": unproved()}
     os.environ["GLIBC_TUNABLES"] = LARGE_PAGES
     for mode, name in (("dirty", "small"), ("dirty", "puts"), ("values", "values")):
@@ -29,7 +29,11 @@ def main():
             run(words, trace, reports[which])
         if not filecmp.cmp(*reports.values(), shallow=False):
             sys.exit(f"{name}: the two programs write different reports")
-        proved, other = in_turn(runs, *commands.values(), source=trace)
+        yield mode, name, *in_turn(runs, *commands.values(), source=trace)
+
+
+def main():
+    for _, name, proved, other in measured(*numbers(__doc__, 7, 8_192)):
         print(
             f"{name:<6} proved {proved.processor:.2f} s, {proved.clock:.2f} s by the clock, {int(proved.memory)} MiB; "
             f"unproved {other.processor:.2f} s, {other.clock:.2f} s, {int(other.memory)} MiB; "
@@ -38,4 +42,5 @@ def main():
         )
 
 
-main()
+if __name__ == "__main__":
+    main()

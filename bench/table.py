@@ -10,8 +10,8 @@ RUNS runs (default 5), less that of a run of one step fewer.
 from timing import nanoseconds, numbers, timed
 
 
-def main():
-    rows, runs = numbers(__doc__, 500_000, 5)
+def measured(rows=500_000, runs=5):
+    """Of each kind and step, nanoseconds a row."""
     program = timed("table", "table", "1000", "remove")
     steps, scanned = ("insert", "find", "remove"), ("insert", "find", "scan", "remove")
     fifth = rows // 5
@@ -26,8 +26,14 @@ def main():
         before = time_of("keys")
         for step in names:
             spent = time_of(step)
-            print(f"{kind} {count} {step} {int((spent - before) / count)}", flush=True)
+            yield kind, count, step, (spent - before) / count
             before = spent
 
 
-main()
+def main():
+    for kind, count, step, spent in measured(*numbers(__doc__, 500_000, 5)):
+        print(f"{kind} {count} {step} {int(spent)}", flush=True)
+
+
+if __name__ == "__main__":
+    main()

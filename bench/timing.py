@@ -1,12 +1,14 @@
 """What the scripts of this folder share: their words, the programs and traces that they need, and the timing of runs.
 
 A script that times a part of the program builds `crates/timed`, and beside it a program of this folder by g++; one that
-times the whole program takes the one that `./shardcache` builds, or that of the variable PROGRAM. What is built and
-made here stands in bench/out.
+times the whole program takes the one that `./shardcache` builds. The variables TIMED and PROGRAM name such programs that are
+built already. What is built and made here stands in bench/out.
 """
 import collections
+import datetime
 import glob
 import os
+import re
 import subprocess
 import sys
 import time
@@ -61,6 +63,8 @@ def nanoseconds(runs, *commands, source=os.devnull):
 
 def timed(*words):
     """Where the program of crates/timed stands, once a run with these words built it: those of a line of its stdout."""
+    if "TIMED" in os.environ:
+        return os.environ["TIMED"]
     how = {"stdout": subprocess.PIPE, "stderr": subprocess.STDOUT, "check": False}
     built = subprocess.run(["rt", "run", "--", *words], cwd=f"{TOP}/crates/timed", **how)
     if built.returncode:
@@ -106,8 +110,20 @@ def trace_of(name, tables=False, scale=1):
     return path
 
 
+def machine():
+    """Where and when something is timed, in one line."""
+    with open("/proc/cpuinfo", encoding="utf-8") as file:
+        model = re.search(r"model name\s*: (.*)", file.read())[1]
+    with open("/proc/meminfo", encoding="utf-8") as file:
+        memory = int(re.search(r"MemTotal:\s+(\d+)", file.read())[1]) / 1048576
+    told = lambda *words: subprocess.run(words, cwd=TOP, stdout=subprocess.PIPE, text=True, check=True).stdout.split()[0]
+    kit, commit = told("rt", "version"), told("git", "rev-parse", "--short", "HEAD")
+    return f"On {datetime.date.today()}, {os.cpu_count()} processors ({model}), {memory:.0f} GB, {kit}, commit {commit}."
+
+
 def put_between(marks, text):
-    """Puts a text between two marks of docs/SPEED.md."""
+    """Puts a text between two marks of docs/SPEED.md, its tables without spaces beside their bars."""
+    text = re.sub(r"(?m)^\|.*\|$", lambda line: re.sub(r" ?\| ?", "|", line[0]), text)
     path = f"{TOP}/docs/SPEED.md"
     with open(path, encoding="utf-8") as file:
         front, rest = file.read().split(marks[0])

@@ -8,13 +8,18 @@ The least user and system time of RUNS runs (default 7), less that of a run that
 from timing import nanoseconds, numbers, timed
 
 
-def main():
-    turns, runs = numbers(__doc__, 1_000_000, 7)
+def measured(turns=1_000_000, runs=7):
+    """Nanoseconds of a part by itself, of a turn that does it, and of an idle turn."""
     program = timed("turns", "1000", "turns")
     steps = ("store", "parts", "node", "turns", "wait", "idle")
     spent = {step: nanoseconds(runs, [program, "turns", str(turns), step])[0] for step in steps}
-    part, turn, idle = ((spent[b] - spent[a]) / turns for a, b in zip(steps[::2], steps[1::2]))
+    return [(spent[b] - spent[a]) / turns for a, b in zip(steps[::2], steps[1::2])]
+
+
+def main():
+    part, turn, idle = measured(*numbers(__doc__, 1_000_000, 7))
     print(f"a part by itself {part:.1f} ns, a turn that does it {turn:.1f} ns, an idle turn {idle:.1f} ns")
 
 
-main()
+if __name__ == "__main__":
+    main()

@@ -11,6 +11,15 @@ use crate::draining::drain;
 use regions::{Movers, Region};
 
 /// What compaction answers. Where no segment was freed by `compact_one` or `compact_in`, nothing changed.
+///
+/// # Examples
+/// ```
+/// let freed = match compact_one(&mut region, &mut bookmark) {
+///     Compacted::Freed => true,
+///     Compacted::NoneSparse => false, // until objects are killed
+///     Compacted::Guarded => false, // until `Region::unguard`
+/// };
+/// ```
 #[derive(Clone, Copy, Debug, PartialEq, Eq)]
 pub enum Compacted {
     /// A segment was freed.
@@ -27,6 +36,15 @@ pub enum Compacted {
 ///
 /// `NoneSparse` where every closed segment is dense. `Guarded` where some closed segment is sparse, and each such one is of a
 /// group with a guard. Then nothing changed. A segment has to be free.
+///
+/// # Examples
+/// ```
+/// if region.free_segments() == 0 {
+///     return false;
+/// }
+/// let did = compact_one(&mut region, &mut bookmark); // the mover `bookmark` has the new places
+/// did == Compacted::Freed
+/// ```
 pub fn compact_one<M: Movers>(region: &mut Region, movers: &mut M) -> Compacted
     requires fits { M.fits movers.old (live_at region.old) }
     requires free { 1 ≤ free_count region.old }
@@ -90,6 +108,14 @@ fn refusal(region: &Region) -> Compacted
 ///
 /// `Guarded` where the group has a guard. Else `NoneSparse` where every closed segment of the group is dense. Then nothing
 /// changed. A segment has to be free, or the group's active one has [`DENSE`](layout::DENSE) bytes left.
+///
+/// # Examples
+/// ```
+/// if region.free_segments() == 0 && region.left(group) < DENSE {
+///     return false;
+/// }
+/// compact_in(&mut region, group, &mut bookmark) == Compacted::Freed // of this group alone
+/// ```
 pub fn compact_in<M: Movers>(region: &mut Region, group: u32, movers: &mut M) -> Compacted
     requires group { HasGroup region.old group }
     requires fits { M.fits movers.old (live_at region.old) }

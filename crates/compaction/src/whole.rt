@@ -22,6 +22,14 @@ use regions::{Movers, Region};
 /// closed segment is dense, each active one is dense or has room for an object of any size, and at most one is free. Then all
 /// segments are dense but one and one for each group, and where some group has too little room or no active segment, all but
 /// one for each group.
+///
+/// # Examples
+/// ```
+/// if region.free_segments() == 0 {
+///     return false;
+/// }
+/// pass(&mut region, &mut bookmark) == Compacted::Freed // two segments are free
+/// ```
 pub fn pass<M: Movers>(region: &mut Region, movers: &mut M) -> Compacted
     requires fits { M.fits movers.old (live_at region.old) }
     requires free { 1 ≤ free_count region.old }
@@ -61,6 +69,13 @@ pub fn pass<M: Movers>(region: &mut Region, movers: &mut M) -> Compacted
 }
 
 /// Whether any group has a guard.
+///
+/// # Examples
+/// ```
+/// region.guard(0);
+/// let guarded = is_guarded(&region); // true, and `pass` would answer `Guarded`
+/// region.unguard(0);
+/// ```
 pub fn is_guarded(region: &Region) -> bool
     ensures { result ≡ false ↔ IsUnguarded region.now }
 {

@@ -36,6 +36,16 @@ const TABLE: u8 = 0;
 
 /// The puts that have not reached the disk, oldest first, and the segments in which they stand. Nothing is evicted. The pieces of
 /// one that is dropped stay allocated for good: [`Dirty::give_up`] hands them out.
+///
+/// # Examples
+/// ```
+/// let dirty = Dirty::new(alloc, 100, 1280 / SEGMENT_PAGES)?;
+/// let mut ranged = Ranged::open(alloc, dirty, 1280)?;
+/// let added = ranged.store.put(b"apple", b"red", 1).is_ok(); // true
+/// let newest = ranged.store.newest(b"apple"); // Some(b"red")
+/// let flushed = ranged.store.flush_one(&mut sink); // Ok(Some(1)) where the sink took the line `put apple red`
+/// ranged.close(); // gives the memory back
+/// ```
 #[derive(Drop)]
 pub struct Dirty {
     region: Region,

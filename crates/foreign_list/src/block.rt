@@ -11,6 +11,17 @@ use std::marker::Model;
 /// A block that was lent: the only holder of its ticket and of its bytes. It may go to any thread.
 ///
 /// It comes home where it is released. One that is dropped never does: its ticket is not idle for good.
+///
+/// # Examples
+/// ```
+/// let mut block = list.lend(&mut seat, ticket, piece);
+/// block.bytes_mut().fill(7);
+/// let home = block.home(); // the owner's number; `block.ticket()` is the ticket
+/// match block.release() {
+///     Ok(released) => tally.add(released),
+///     Err(raced) => waiting = Some(raced.block), // to be released again
+/// }
+/// ```
 #[derive(Drop)]
 pub struct ForeignBlock<'f> {
     pub(crate) list: &'f ListTable,

@@ -10,6 +10,9 @@ use foreign_core::law_of_histories;
 /// state, and possible events led there from all idle. Each kind of step is one event of the core, but for the owner's walk, which
 /// is none, and for its look at the head: one that finds no ticket takes the list, which is empty, and another one is none. So
 /// [`law_of_histories`] holds of every run.
+///
+/// # Examples
+/// A caller cites `law_of_the_list();` for what holds of the list whatever other threads do.
 pub fn law_of_the_list()
     ensures shows { EachShowsCore }
     ensures events { EachStepIsOneEvent }

@@ -11,6 +11,15 @@ use raw_range::Piece;
 use std::marker::Model;
 
 /// A block that saw a head and is linked to it. One that is dropped never comes home.
+///
+/// # Examples
+/// ```
+/// let linked = block.begin();
+/// match linked.swing() {
+///     Ok(released) => tally.add(released), // the block is on the list
+///     Err(raced) => waiting = Some(raced.block), // to be begun again
+/// }
+/// ```
 #[derive(Drop)]
 pub struct LinkedBlock<'f> {
     pub(crate) list: &'f ListTable,

@@ -15,6 +15,14 @@ use std::alloc::{AllocError, Global};
 use std::marker::Brand;
 
 /// What came back of a lent block.
+///
+/// # Examples
+/// ```
+/// list.take_whole(&mut seat);
+/// while let Some(back) = list.next_back(&mut seat) {
+///     range.put(back.piece); // the ticket `back.ticket` is idle again
+/// }
+/// ```
 #[derive(Drop)]
 pub struct Returned {
     pub ticket: u32,

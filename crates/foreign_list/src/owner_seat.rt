@@ -11,6 +11,14 @@ use std::marker::Model;
 
 /// The owner's side of a list. It says which tickets are idle, what was lent with each other one, and what was taken and
 /// has not come back.
+///
+/// # Examples
+/// ```
+/// let (list, mut seat) = Foreign::new(alloc, 3)?;
+/// let ticket = seat.least_idle(0, TICKETS); // Some(0)
+/// let block = list.lend(&mut seat, 0, piece);
+/// let idle = seat.is_idle(0); // false, until `next_back` gives what was lent
+/// ```
 #[derive(Drop)]
 pub struct OwnerSeat {
     pub(crate) seat: TableSeat,

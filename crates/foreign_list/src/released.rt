@@ -4,6 +4,17 @@ use crate::list_table::{ListTable, TableSeat};
 use std::marker::Model;
 
 /// The pass of a block that came on its owner's list. Only the step that puts the block there makes it, and a `Tally` counts it.
+///
+/// # Examples
+/// ```
+/// match block.release() {
+///     Ok(released) => {
+///         tally.add(released); // counts the block once; a pass may be dropped instead
+///         None
+///     }
+///     Err(Raced { block, .. }) => Some(block),
+/// }
+/// ```
 #[derive(Drop)]
 pub struct Released<'f> {
     pub(crate) list: &'f ListTable,
@@ -24,6 +35,18 @@ impl<'f> Model for Released<'f> {
 }
 
 /// Another's swing or a take-whole came between a block's look at the head and its swing. The block is the caller's still.
+///
+/// # Examples
+/// ```
+/// let mut block = block;
+/// for _ in rt.forever() {
+///     match block.release() {
+///         Ok(released) => return released,
+///         Err(raced) => block = raced.block, // the head was `raced.expected`, and is `raced.found`
+///     }
+/// }
+/// unreachable!()
+/// ```
 #[derive(Drop)]
 pub struct Raced<'f> {
     pub block: ForeignBlock<'f>,

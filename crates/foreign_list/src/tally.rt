@@ -5,6 +5,13 @@ use crate::released::Released;
 use std::marker::Model;
 
 /// How many blocks came on their lists. It stands at the greatest u64.
+///
+/// # Examples
+/// ```
+/// let mut tally = Tally::new();
+/// tally.add(released);
+/// let count = tally.count(); // 1
+/// ```
 #[derive(Drop)]
 pub struct Tally {
     count: u64,

@@ -10,12 +10,29 @@ use byteorder::{ByteOrder, LittleEndian};
 use layout::{DESCRIPTOR, GREATEST_OBJECT};
 
 /// The most bytes of a value.
+///
+/// # Examples
+/// ```
+/// if bytes.len() > GREATEST_VALUE {
+///     return Err(SetRefusal::TooLong); // as `Fragments::put` does
+/// }
+/// ```
 pub const GREATEST_VALUE: usize = 1_048_576;
 
 /// The most bytes of a value in one fragment. Each fragment but the last holds so many.
+///
+/// # Examples
+/// ```
+/// let full = bytes.len() / FRAGMENT_BYTES; // how many fragments of the value hold as many bytes as can be
+/// ```
 pub const FRAGMENT_BYTES: usize = 12_264;
 
 /// The most fragments of a value.
+///
+/// # Examples
+/// ```
+/// let mut lengths = [0usize; MOST_FRAGMENTS]; // a place for each piece of any value
+/// ```
 pub const MOST_FRAGMENTS: usize = 86;
 
 /// The link to no fragment.
@@ -58,6 +75,12 @@ pub(crate) fn object_size(len: usize) -> u32
 }
 
 /// The bytes of all objects of a value of so many bytes, their descriptors included.
+///
+/// # Examples
+/// ```
+/// let one = value_size(100); // 136, in one fragment
+/// let two = value_size(12_265); // 12_336, in two
+/// ```
 pub fn value_size(len: usize) -> u64
     requires { len ≤ sizes.greatest_value }
     ensures { result ≡ sizes.size len }

@@ -13,6 +13,17 @@ use std::marker::Model;
 
 /// An iterator over the pieces of a value, one in each fragment. Each is a slice of a segment's bytes, and nothing is copied. A
 /// contract sees the pieces that are still to come.
+///
+/// # Examples
+/// ```
+/// let Some(mut pieces) = store.get(7) else {
+///     return Ok(()); // the name 7 has no value
+/// };
+/// let len = pieces.bytes_left(); // the length of the value
+/// while let Some(piece) = pieces.next() {
+///     out.put(piece)?;
+/// }
+/// ```
 #[derive(Drop)]
 pub struct Pieces<'a> {
     region: &'a Region,

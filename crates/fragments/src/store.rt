@@ -29,6 +29,15 @@ use thiserror::Error;
 use writing::{drop_value, set_value};
 
 /// Why a value is not set. Nothing changed.
+///
+/// # Examples
+/// ```
+/// match store.put(7, bytes) {
+///     Ok(()) => true,
+///     Err(SetRefusal::TooLong) => false, // no store takes it
+///     Err(SetRefusal::NoRoom) => false, // until values are dropped
+/// }
+/// ```
 #[derive(Clone, Copy, Debug, PartialEq, Eq, Error)]
 pub enum SetRefusal {
     /// It has more than [`crate::GREATEST_VALUE`] bytes.
@@ -43,6 +52,16 @@ pub enum SetRefusal {
 /// The values of names, numbers below a bound, and the segments in which they stand. A value is a chain of fragments, which
 /// may move whenever a value is set. The pieces of a store that is dropped stay allocated for good: [`Fragments::give_up`] hands
 /// them out.
+///
+/// # Examples
+/// ```
+/// let store = Fragments::new(alloc, 100, 1280 / SEGMENT_PAGES)?;
+/// let mut ranged = Ranged::open(alloc, store, 1280)?;
+/// let set = ranged.store.put(7, b"red").is_ok(); // true
+/// let len = ranged.store.len(7); // Some(3)
+/// let gone = ranged.store.erase(7); // true
+/// ranged.close(); // gives the memory back
+/// ```
 #[derive(Drop)]
 pub struct Fragments {
     region: Region,

@@ -6,6 +6,16 @@
 //!
 //! The arrays are lazily initialised ([`LazyTable`]): tables of entries that are all alike at first, each written as far as it
 //! was ever set.
+//!
+//! # Choices
+//! - A [`LazyTable`] is reserved whole and written up to the last entry that was set. Reading an entry anywhere asks whether it
+//!   is written; callers that know it to be read it without asking (`get_written`).
+//! - Each list is a ring through a sentinel, so that removing has no branch, and putting an index on one alone in each
+//!   direction: whether the links are written up to it. The links of the lists stand in front of those of the indices, since
+//!   they are written at once.
+//!
+//! # Promises
+//! - Lists of indices do as std's lists do (the clauses of [`IndexLists`]).
 #![tactic(auto)]
 
 pub use lists::IndexLists;

@@ -12,6 +12,9 @@ ghost use Rattle.index_tree.specs.Examples.{put_a, put_b, left_place, right_plac
 ghost use Rattle.index_tree.specs.Moves.{moved, moved_tree};
 
 /// How many nodes 40 segments surely hold, and how many keys 40 segments and the most segments take.
+///
+/// # Examples
+/// A caller cites `sizes_are_as_worked();` for numbers: how many keys an index of 40 segments, or of the most, has room for.
 pub fn sizes_are_as_worked()
     ensures nodes { node_room 40 ≡ 1027 }
     ensures keys { most 40 ≡ 7126 }
@@ -19,6 +22,9 @@ pub fn sizes_are_as_worked()
 {}
 
 /// What a move makes of a tree's nodes is a tree again, and stands for the same index.
+///
+/// # Examples
+/// A caller cites `a_move_keeps_the_index();` for the tree and the index that it has once a node was moved.
 pub fn a_move_keeps_the_index()
     ensures tree { (nodes : Nodes) (t : TreeState) (from to : Place) → HasRoom from → HasRoom to → from ≢ to → nodes to ≡ None
         → IsTree nodes t → IsTree (moved from to nodes) (moved_tree from to t) }
@@ -27,6 +33,9 @@ pub fn a_move_keeps_the_index()
 {}
 
 /// What a put of `b`, then one of `a`, and the end of `a` make of an index with no key, and what is read meanwhile.
+///
+/// # Examples
+/// A caller cites `an_index_is_as_worked();` for what the words on indexes come to, on one of at most two keys.
 pub fn an_index_is_as_worked()
     ensures first { put_b ≡ (record { key = codes "b"; number = 1 }) ∷ [] }
     ensures second { put_a ≡ (record { key = codes "a"; number = 2 }) ∷ (record { key = codes "b"; number = 1 }) ∷ [] }
@@ -39,6 +48,9 @@ pub fn an_index_is_as_worked()
 {}
 
 /// What two leaves under a root hold, which nodes they are, level by level too, and that they are linked in order.
+///
+/// # Examples
+/// A caller cites `a_tree_is_as_worked();` for what the words on trees come to, on a root with two leaves.
 pub fn a_tree_is_as_worked()
     ensures held { index_of two_leaves two_leaves_tree
         ≡ (record { key = codes "a"; number = 1 }) ∷ (record { key = codes "m"; number = 2 }) ∷ [] }
@@ -50,6 +62,9 @@ pub fn a_tree_is_as_worked()
 {}
 
 /// What the leaves of a tree below a place hold lies between the bounds of the place.
+///
+/// # Examples
+/// A caller cites `a_subtree_holds_what_lies_between();` for the bounds on every key below a node.
 pub fn a_subtree_holds_what_lies_between()
     ensures { (nodes : Nodes) (level : ℕ) (parent : Option Place) (low high : Option (List ℕ)) (p : Place)
         → IsSubtree nodes level parent low high p → All (IsBetween low high) (held_below nodes level (Some p)) }

@@ -28,12 +28,30 @@ use std::alloc::{AllocError, Global};
 use std::marker::Model;
 
 /// As many keys are held as the segments surely have room for.
+///
+/// # Examples
+/// ```
+/// let had = tree.insert(b"apple", 7);
+/// let full = had == Err(Full); // then nothing changed
+/// ```
 #[derive(Debug, Clone, Copy, PartialEq, Eq)]
 pub struct Full;
 
 /// An ordered map from keys of 1 to 256 bytes to numbers, and the segments in which its nodes stand. Nodes may move whenever a
 /// key is inserted, and never while a guard stands. The pieces of an index that is dropped stay allocated for good:
 /// [`IndexTree::give_up`] hands them out.
+///
+/// # Examples
+/// ```
+/// let tree = IndexTree::new(alloc, 1280 / SEGMENT_PAGES)?;
+/// let mut ranged = Ranged::open(alloc, tree, 1280)?;
+/// let had = ranged.store.insert(b"apple", 7); // Ok(None)
+/// let number = ranged.store.get(b"apple"); // Some(7)
+/// let mut keys = [0u8; 516]; // room for two keys of the greatest length
+/// let scanned = ranged.store.range(b"a", 2, &mut keys); // Scanned { keys: 1, bytes: 7 }
+/// let gone = ranged.store.remove(b"apple"); // Some(7)
+/// ranged.close(); // gives the memory back
+/// ```
 #[derive(Drop)]
 pub struct IndexTree {
     region: Region,

@@ -22,6 +22,19 @@ use std::marker::Model;
 ///
 /// An index knows the numbers of its rows and some bytes of their keys. It is the index of given keys where
 /// `IsIndexOf` holds; it stays so as long as its rows keep their keys, wherever these are moved (a lemma of `key_lemmas`).
+///
+/// # Examples
+/// ```
+/// let mut index = KeyIndex::new(alloc, 1000)?;
+/// let key = keys.key(row);
+/// let Err(place) = index.search(&keys, &key) else {
+///     return Ok(false); // a row has the key
+/// };
+/// index.insert_at(&keys, place, row);
+/// let found = index.find(&keys, &key); // Some(row)
+/// let first = index.rows_from(&keys, &key).next(); // Some(row), that of the least key at or above
+/// let gone = index.remove(&keys, &key); // Some(row)
+/// ```
 #[derive(Drop)]
 pub struct KeyIndex {
     room: u32,

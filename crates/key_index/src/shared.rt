@@ -100,6 +100,11 @@ pub(crate) fn compare_from(a: &Key<'_>, b: &Key<'_>, from: usize) -> Compared
 
 /// The first eight bytes of a key as a number, the first byte highest. Where the key is shorter, zeros stand for the
 /// bytes that it lacks.
+///
+/// # Examples
+/// ```
+/// let lead = lead_of(b"ab"); // 0x6162_0000_0000_0000
+/// ```
 pub fn lead_of(key: &[u8]) -> u64
     ensures lead { result ≡ first_bytes 8 key.now }
     ensures bytes { AreBytes key.now }
@@ -137,6 +142,13 @@ fn lead_in(table: u8, first: u64) -> u64
 
 /// The lead of a key behind what is skipped: behind nothing its table and its first bytes, and behind the table and so many
 /// bytes the next eight. Leads behind as much are in the order of the keys that share what is skipped.
+///
+/// # Examples
+/// ```
+/// let key = Key { table: 1, bytes: b"ab" };
+/// let lead = lead_behind(&key, 0); // 0x2C2C_4000_0000_0000: the table in three bits, and then the bytes
+/// let rest = lead_behind(&key, 2); // 0x6200_0000_0000_0000: behind the table and one byte
+/// ```
 #[inline(always)]
 pub fn lead_behind(key: &Key<'_>, skip: usize) -> u64
     requires table { key.now.table < tables }

@@ -8,6 +8,13 @@ use crate::settling::entry_at;
 use std::marker::Model;
 
 /// The rows from a place on, in order.
+///
+/// # Examples
+/// ```
+/// let mut rows = index.rows_from(&keys, &key);
+/// let first = rows.next(); // the row of the least key at or above, or None
+/// let second = rows.next(); // the row of the key behind that, or None
+/// ```
 #[derive(Drop)]
 pub struct Rows<'a> {
     blocks: &'a Blocks,

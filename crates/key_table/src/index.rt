@@ -23,6 +23,19 @@ use std::marker::Model;
 ///
 /// It is the index of given keys where `IsLazyOf` holds; it stays so as long as its rows keep their keys, wherever these
 /// are moved.
+///
+/// # Examples
+/// ```
+/// let mut index = LazyIndex::new(alloc, 1000)?;
+/// let key = keys.key(row);
+/// let Err(spot) = index.find(&keys, &key) else {
+///     return Ok(false); // a row has the key
+/// };
+/// index.insert(&keys, spot, row); // its number is below `room`
+/// let waiting = index.waiting(); // 1, or 0 where the table did not take it
+/// index.settle(&keys);
+/// let first = index.rows_from(&keys, &key).next(); // Some(row), that of the least key at or above
+/// ```
 #[derive(Drop)]
 pub struct LazyIndex {
     room: u32,

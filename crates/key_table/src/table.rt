@@ -18,6 +18,17 @@ use std::marker::Model;
 ///
 /// A table knows the numbers of its rows and tags of their keys. It is the table of given keys where `IsTableOf` holds; it
 /// stays so as long as its rows keep their keys, wherever these are moved (see [`KeyTable::len`]).
+///
+/// # Examples
+/// ```
+/// let mut table = KeyTable::new(alloc, 1000)?;
+/// let key = keys.key(row);
+/// let Err(spot) = table.find(&keys, &key) else {
+///     return Ok(false); // a row has the key
+/// };
+/// let taken = table.insert(spot, row).is_ok(); // false: too many slots in a row would hold rows
+/// let gone = table.remove(spot.of(row)); // true where the row was taken
+/// ```
 #[derive(Drop)]
 pub struct KeyTable {
     room: u32,

@@ -2,6 +2,14 @@
 //!
 //! Pages and orders are Seastar's; segments, density and the greatest object follow ScyllaDB's logalloc; the numbers
 //! themselves are this project's. Each constant has a word of its own in `specs/Sizes.antt`, which contracts cite.
+//!
+//! # Choices
+//! - A size is a constant of the code and a word of the specifications, under one name; what one says of another is a law.
+//! - An extent is its start and its length, in bytes or in pages, as its user says.
+//! - The kinds of objects are one enum, since no two stores may have one; `object_log` and `regions` take a kind as a number,
+//!   and stand for objects of any kinds.
+//! - Counts that stand still at the greatest u64, and when one rose, are defined here once, for devices, blocks, links and
+//!   turns.
 #![tactic(auto)]
 
 ghost use Rattle.std.specs.Prelude.{◌≡◌, ℕ, ◌+◌, ◌*◌, ◌^◌, ◌<◌};

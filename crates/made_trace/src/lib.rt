@@ -1,6 +1,12 @@
 //! A trace that is made of a number, its seed: a large valid input that anybody can make again, byte for byte.
 //!
 //! The words come from the generator `Lcg64Xsh32`; what they make is `specs/Made.antt`. The mix is ours.
+//!
+//! # Choices
+//! - The generator is the kit's, and the definition is stated by its states, so that the words are pinned too.
+//!
+//! # Promises
+//! - The trace that is made of a number is the definition's, byte for byte (`make_trace`).
 #![tactic(auto)]
 
 ghost use Rattle.std.specs.Prelude.{◌≡◌, ◌++◌, ◌≤◌, codes, decimal, OnOk, IfOk};

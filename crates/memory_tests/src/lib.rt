@@ -1,5 +1,8 @@
 //! The tests of the crates that hold blocks of memory, which use them from outside, a file for each crate. They stand
 //! apart, since the check proves a crate's tests together with all of the crate.
+//!
+//! The crates: `number_set`, `index_lists`, `span_lists`, `small_pools`, `shard_memory`, `foreign_core`, `foreign_list`, and of
+//! `raw_range` the test that starts a thread.
 #![tactic(auto)]
 
 #[cfg(test)]

@@ -11,6 +11,12 @@ const NO_LINK: u64 = 18_446_744_073_709_551_615;
 const SEGMENT_STEP: u64 = 4_294_967_296;
 
 /// The number that a place is written as. That of none is the greatest one.
+///
+/// # Examples
+/// ```
+/// let link = link_to(Some(Place { segment: 2, at: 16 })); // 8_589_934_608
+/// let none = link_to(None); // 18_446_744_073_709_551_615
+/// ```
 pub fn link_to(place: Option<Place>) -> u64
     ensures { result ≡ place_links.link_to place }
 {
@@ -21,6 +27,11 @@ pub fn link_to(place: Option<Place>) -> u64
 }
 
 /// The place that a number was written for, which is not that of none.
+///
+/// # Examples
+/// ```
+/// let place = place_of(8_589_934_608); // Place { segment: 2, at: 16 }
+/// ```
 pub fn place_of(link: u64) -> Place
     ensures { result ≡ place_links.place_of_link link }
 {
@@ -31,6 +42,12 @@ pub fn place_of(link: u64) -> Place
 }
 
 /// The place to which a number leads.
+///
+/// # Examples
+/// ```
+/// let some = led_to(8_589_934_608); // Some(Place { segment: 2, at: 16 })
+/// let none = led_to(link_to(None)); // None
+/// ```
 pub fn led_to(link: u64) -> Option<Place>
     ensures { result ≡ place_links.led_to link }
 {

@@ -13,6 +13,22 @@ use crate::region::Region;
 /// the two stand for a store, in which nothing has a place. Items are compared without their reference fields, which the
 /// mover names by `bare` and reads by `references`; their group and kind are no such field. What else it keeps, `rest` tells,
 /// and no move changes it. An object is moved within its group: the item at both places is one.
+///
+/// # Examples
+/// ```
+/// impl Movers for Bookmark {
+///     ghost fits = { λ bookmark live. IsOnly bookmark.place live };
+///     ghost place_of = { λ bookmark n. place_named bookmark.place n };
+///     ghost bare = { λ i. i };
+///     ghost references = { λ i. [] };
+///     ghost Rest = { Unit {0} };
+///     ghost rest = { λ bookmark. tt };
+///
+///     fn moved(&mut self, _store: &mut Region, _kind: u8, _from: Place, to: Place) {
+///         self.place = to;
+///     }
+/// }
+/// ```
 pub trait Movers {
     ghost fits: { Self → Live → Type 0 };
 

@@ -27,6 +27,18 @@ use std::mem;
 /// The segments of one shard, by number, and the objects in them. A segment is free, or closed or active in one of the
 /// region's groups, which share the free ones. A group has at most one active segment, and has one where it has a closed one.
 /// It has guards of its own. The pieces of a region that is dropped stay allocated for good: [`Region::give_up`] hands them out.
+///
+/// # Examples
+/// ```
+/// let mut region = Region::new(alloc, 40, 1)?;
+/// region.add_segment(piece); // of 131,072 bytes
+/// region.next_active(0);
+/// if let Ok(place) = region.place(0, 1, 64) {
+///     region.bytes_mut(place).fill(7); // its content has 56 bytes
+///     region.kill(place);
+/// }
+/// let piece = region.give_up(); // Some(piece)
+/// ```
 #[derive(Drop)]
 pub struct Region {
     most: u32,

@@ -4,6 +4,18 @@
 //!
 //! The layout is this project's. What the bytes mean is `specs/Rows.antt`, in both directions: the bytes of a row, and
 //! the row that bytes are read as.
+//!
+//! # Choices
+//! - A link is a number here; that it is a place is known to `row_cache` alone. A written link leaves the row, its number and
+//!   its other link, and a clause says of each that it is the same.
+//! - `row_header` gives the header alone. The key and the value go into the object from where they stand, so that no byte is
+//!   written twice; what the three are together, with the zeros behind them, its clauses say.
+//! - A row as it comes (`NewRow`) and the key that a scan writes (`write_key`) stand here, since two crates want each.
+//! - `set_value` writes over bytes of a value and leaves its length, so the content is of the same row with another value, and
+//!   the object keeps its size.
+//!
+//! # Promises
+//! - A row is read as it is written (`a_row_is_read_as_it_is_written`).
 #![tactic(auto)]
 
 mod keys;

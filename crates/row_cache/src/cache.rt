@@ -29,6 +29,19 @@ use storing::{drop_row, group_for, put_row};
 
 /// The rows of one shard's cache, and the segments in which they stand. The pieces of one that is dropped stay allocated for good:
 /// [`RowCache::give_up`] hands them out.
+///
+/// # Examples
+/// ```
+/// let mut cache = RowCache::new(alloc, 1000, 40, 1)?;
+/// cache.add_segment(piece); // of 131,072 bytes
+/// cache.next_active(0);
+/// let did = cache.put(0, b"apple", b"red", 1); // Ok(Put::Stored)
+/// let value = cache.get(0, b"apple"); // Some(b"red")
+/// let number = cache.evict_last(); // Some(1), the number of the put
+/// while let Some(piece) = cache.give_up() {
+///     pieces.push(piece)?;
+/// }
+/// ```
 #[derive(Drop)]
 pub struct RowCache {
     region: Region,

@@ -1,5 +1,7 @@
 //! The tests of the crates that keep rows, which use them from outside, a file for each crate. They stand apart, since
 //! the check proves a crate's tests together with all of the crate.
+//!
+//! The crates: `object_log`, `regions`, `compaction`, `row_bytes`, `key_index` and `row_cache`.
 #![tactic(auto)]
 
 #[cfg(test)]

@@ -51,6 +51,19 @@ use std::marker::Model;
 
 /// The memory of one shard, with the owner's seat at its list. One that is dropped leaks its pages: only [`ShardMemory::finish`] gives
 /// them back, once no block and no segment is out.
+///
+/// # Examples
+/// ```
+/// let (home, seat) = Foreign::new(alloc, 0)?;
+/// let mut memory = match ShardMemory::open(alloc, 0, 1280, &home, seat) {
+///     Ok(memory) => memory,
+///     Err(seat) => { home.close(seat); return Err(AllocError); }
+/// };
+/// let block = memory.give(100, Share::Request); // Ok(block), which any thread releases: `ForeignBlock::release`
+/// let back = memory.take_back(); // 1, once it was released
+/// let seat = memory.finish(); // once `tickets_out` answers 0
+/// home.close(seat);
+/// ```
 #[derive(Drop)]
 pub struct ShardMemory<'f> {
     home: &'f Foreign,

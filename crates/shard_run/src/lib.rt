@@ -8,6 +8,16 @@
 //! `specs/Opening.antt` says what nodes are that were opened, `specs/Running.antt` when they were driven, `specs/Remaining.antt`
 //! what nodes leave, and `specs/Closing.antt` what went over a pair as it ended. When a run is finished, `run_log/specs/Runs.antt`
 //! says. Driving the nodes is another crate's.
+//!
+//! # Choices
+//! - Nodes are opened from the last shard to the first: the seats that are left are always those of the first shards, and a
+//!   refusal gives them back in their order without taking memory.
+//!
+//! # Promises
+//! - The nodes of a run are opened for all shards, or every seat comes home; what they leave is what they were (`open_nodes`,
+//!   `finish_nodes`, `close_links`).
+//! - That a run which is refused for want of memory leaves nothing that is not freed is tested, by `bench/refused_memory.py`:
+//!   in no clause.
 #![tactic(auto)]
 
 mod closing;

@@ -5,6 +5,15 @@ use rows::Evictions;
 
 /// The tags of the rows that went, in order, in memory of the caller's. Those that did not fit are counted, and the count stands
 /// at the greatest u64.
+///
+/// # Examples
+/// ```
+/// let mut tags = [0u32; 2];
+/// let mut gone = EvictedTags::new(&mut tags);
+/// let did = store.put(0, b"apple", b"red", 1, &mut gone);
+/// let (told, missed) = (gone.told, gone.missed); // together, how many rows went for it
+/// let tags = gone.into_tags(); // the first `told` are the tags of those that went first
+/// ```
 #[derive(Drop)]
 pub struct EvictedTags<'a> {
     pub tags: &'a mut [u32],

@@ -5,6 +5,13 @@ ghost use Rattle.layout.specs.Counts.{counted};
 use rows::Evictions;
 
 /// How many rows went. It stands at the greatest u64.
+///
+/// # Examples
+/// ```
+/// let mut gone = EvictionCount::default();
+/// let did = store.put(0, b"apple", b"red", 1, &mut gone);
+/// let count = gone.count; // how many rows went for it
+/// ```
 #[derive(Clone, Copy, Debug, Default, PartialEq, Eq)]
 pub struct EvictionCount {
     pub count: u64,

@@ -30,6 +30,20 @@ use std::marker::Model;
 
 /// The memory and the cache of one shard. One that is dropped leaks its pages: only [`ShardStore::finish`] gives them back, once every
 /// lent block is home.
+///
+/// # Examples
+/// ```
+/// let (home, seat) = Foreign::new(alloc, 0)?;
+/// let mut store = match ShardStore::open(alloc, 0, 1280, 1000, 1, &home, seat) {
+///     Ok(store) => store,
+///     Err(seat) => { home.close(seat); return Err(AllocError); }
+/// };
+/// let mut gone = EvictionCount::default();
+/// let did = store.put(0, b"apple", b"red", 1, &mut gone); // Put::Stored
+/// let found = store.get(0, b"apple"); // Some((b"red", 1))
+/// let seat = store.finish(); // once `tickets_out` answers 0
+/// home.close(seat);
+/// ```
 #[derive(Drop)]
 pub struct ShardStore<'f> {
     memory: ShardMemory<'f>,

@@ -31,6 +31,12 @@ const CAPACITIES: [u8; 37] = [
 ///
 /// Classes are four per doubling, so the highest bit of the last byte's number gives the doubling, and the two bits
 /// below it the class within it.
+///
+/// # Examples
+/// ```
+/// let class = class_of(100); // Some(7), whose objects have 112 bytes
+/// let none = class_of(16_385); // None
+/// ```
 pub fn class_of(size: u32) -> Option<u8>
     ensures none { IsNone result ↔ (greatest_block < size) }
     ensures some { IfSome result (IsLeastClass size) }

@@ -14,6 +14,20 @@ use std::alloc::{AllocError, Global};
 use std::marker::Model;
 
 /// The pools of all classes of one shard.
+///
+/// # Examples
+/// ```
+/// let mut spans = Spans::new(alloc, 1280)?;
+/// let mut pools = Pools::new(alloc, 1280)?;
+/// let Some(class) = class_of(100) else {
+///     return Ok(false);
+/// };
+/// let Some(place) = pools.take(&mut spans, class) else {
+///     return Ok(false); // neither the class nor the pages have room
+/// };
+/// pools.put(place);
+/// pools.trim(&mut spans); // the span of the object is one of the pages' free ones again
+/// ```
 #[derive(Drop)]
 pub struct Pools {
     held: HeldSpans,
