@@ -21,7 +21,7 @@ and how many rows went, and how many commands were answered alike.
 With --audit the program's audits of its own reports are timed beside the runs that wrote them.
 
 With --write all three tables are made, that of version 2 with one shard, and put into docs/SPEED.md, between the marks
-that stand there. No other work should be on the machine.
+that stand there, and what they come to into README.md. No other work should be on the machine.
 """
 import filecmp
 import os
@@ -53,6 +53,7 @@ AUDITS_HEAD = "| Trace | Part | Trace and report | Run | Audit | Ratio | Aim |"
 MOST_BYTES = 67_108_864
 
 MARKS = ("<!-- written by bench/compare.py --write -->\n", "<!-- so far -->\n")
+SUMMED = ("<!-- speed -->\n", "<!-- /speed -->\n")
 
 
 def evictions(report):
@@ -161,6 +162,18 @@ def table(head, cases, line_of):
     return "".join(lines)
 
 
+def summed(table):
+    """What the ratios of a table lie between: of one shard the time's and the memory's, of four the clock's."""
+    rows = [[cell.strip() for cell in line.split("|")] for line in table.splitlines() if line.startswith("| `")]
+    ratios = lambda shards, at: [float(row[at].split(", ")[1].split()[0]) for row in rows if row[2] == shards]
+    between = lambda shards, at: f"{min(ratios(shards, at)):.1f} to {max(ratios(shards, at)):.1f} times"
+    return (
+        f"\n- one shard takes {between('1', 3)} as long;\n"
+        f"- four shards take {between('4', 4)} as long by the clock; they are hardly faster than one;\n"
+        f"- one shard takes {between('1', 6)} the memory.\n\n"
+    )
+
+
 def main():
     words, rounds = sys.argv[1:], 5
     if words[:1] == ["-r"]:
@@ -191,6 +204,7 @@ def main():
         parts.append(table(AUDITS_HEAD, AUDITS, lambda case: compare_audit(case, rounds, own)))
     if writes:
         put_between(MARKS, "\n".join(parts))
+        put_between(SUMMED, summed(parts[1]), "README.md")
 
 
 if __name__ == "__main__":

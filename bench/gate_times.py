@@ -1,5 +1,5 @@
 #!/usr/bin/env python3
-"""gate_times.py [first|gate]: times the first command, the gate, or both, one after the other, and writes docs/GATE.md and README's times.
+"""gate_times.py [first|gate]: times the first command, the gate, or both, one after the other, and writes docs/GATE.md, docs/gate.csv and README's times.
 
 Each runs in a fresh clone of what is committed here, and takes nothing that an earlier run kept. Its processors' time in all is what the system
 counts for it and its children. That of each crate is read off /proc as the provers run, twice a second, so a process lacks up to half a second.
@@ -16,7 +16,7 @@ import time
 from timing import TOP, machine
 
 PAGE = f"{TOP}/docs/GATE.md"
-FIRST_PAGE = f"{TOP}/README.md"
+FIRST_PAGE, ALL = f"{TOP}/README.md", f"{TOP}/docs/gate.csv"
 KINDS = ("proof", "tests", "start", "edits")
 # How many crates have a line of their own; the others have one together.
 SHOWN = 11
@@ -106,10 +106,14 @@ def whole_gate(clone):
         sums = [minutes(sum(sampler.spent[it, kind] for it in those)) for kind in KINDS]
         return f"| {what} | {' | '.join(sums)} | {sum(sampler.edits[it] for it in those) or ''} | {minutes(sum(map(spent, those)))} |"
 
+    with open(ALL, "w", encoding="utf-8") as file:
+        file.write(f"crate,{','.join(KINDS)},tries\n")
+        for it in names:
+            file.write(f"{it},{','.join(minutes(sampler.spent[it, kind]) for kind in KINDS)},{sampler.edits[it] or ''}\n")
     rows = [row(f"`{it}`", [it]) for it in names[:SHOWN]]
     rows += [row(f"{len(names) - SHOWN} others", names[SHOWN:]), row("all", names)]
     head = f"`rt ci --anew` took **{clock:.0f} minutes** by the clock and **{processors:.0f} of processors**; its last line was `{lines[-1][1]}`."
-    more = "By crate, in minutes of a processor; the checks that a crate's edits begin with are a column of their own:"
+    more = "The dearest crates, in minutes of a processor ([gate.csv](gate.csv) has all); the checks that a crate's edits begin with stand apart:"
     return "\n".join([head, "", more, "", "| Crate | Proof | Tests | Start of its edits | Edits | Tries | All |", "|---|---|---|---|---|---|---|", *rows])
 
 

@@ -121,10 +121,10 @@ def machine():
     return f"On {datetime.date.today()}, {os.cpu_count()} processors ({model}), {memory:.0f} GB, {kit}, commit {commit}."
 
 
-def put_between(marks, text):
-    """Puts a text between two marks of docs/SPEED.md, its tables without spaces beside their bars."""
+def put_between(marks, text, page="docs/SPEED.md"):
+    """Puts a text between two marks of a page, its tables without spaces beside their bars."""
     text = re.sub(r"(?m)^\|.*\|$", lambda line: re.sub(r" ?\| ?", "|", line[0]), text)
-    path = f"{TOP}/docs/SPEED.md"
+    path = f"{TOP}/{page}"
     with open(path, encoding="utf-8") as file:
         front, rest = file.read().split(marks[0])
     behind = rest.split(marks[1], 1)[1]

@@ -61,7 +61,7 @@ enum sc_code {
 #define SC_SEGMENT_PAGES 32u        /* pages come in multiples of these */
 #define SC_FEWEST_PAGES 1280u       /* 5 MiB */
 #define SC_FEWEST_GROUP_PAGES 1536u /* where each table has segments of its own */
-#define SC_MOST_PAGES 65536u        /* 256 MiB */
+#define SC_MOST_PAGES 524288u       /* 2 GiB */
 #define SC_MOST_KEYS 32u            /* that one scan writes */
 #define SC_KEY_ROOM 258u            /* the room for each of them, with its length */
 

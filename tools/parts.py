@@ -5,14 +5,14 @@
 
 With `--check` nothing is written, and the script fails where the table is not the one that it would write. The crates are those of
 crates.txt, the part's own and all below it; the kit's are not counted. Lines are those of src/, specs/ and proofs/, tests included.
-Minutes are of one processor, from nothing, without tests and wrong bodies: the sum of the column `Proof` of the gate in docs/GATE.md.
+Minutes are of one processor, from nothing, without tests and wrong bodies: the sum of the column `proof` of docs/gate.csv.
 """
 import os
 import re
 import sys
 
 TOP = os.path.dirname(os.path.dirname(os.path.realpath(__file__)))
-PAGE, TIMES = f"{TOP}/docs/PARTS.md", f"{TOP}/docs/GATE.md"
+PAGE, TIMES = f"{TOP}/docs/PARTS.md", f"{TOP}/docs/gate.csv"
 HEAD = "| Part | Its own crate, and those below it | Crates | Lines | Minutes |\n|---|---|---|---|---|\n"
 
 # Of each part the crates that are its own: those below come by crates.txt.
@@ -69,8 +69,7 @@ def lines_of(crate):
 
 def minutes_by_crate():
     """Of each crate that the gate was timed with, the minutes of its proof."""
-    gate = text_of(TIMES).split("## The gate", 1)[1]
-    return {name: float(proof) for name, proof in re.findall(r"^\| `(\w+)` \| ([\d.]+) \|", gate, re.M)}
+    return {name: float(proof) for name, proof in re.findall(r"^(\w+),([\d.]+),", text_of(TIMES), re.M)}
 
 
 def row_of(part, minutes):

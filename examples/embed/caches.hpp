@@ -24,7 +24,7 @@ inline std::uint64_t ends_of(const void *value, std::size_t len) {
 class Ours {
   public:
     Ours(std::uint32_t pages, std::uint32_t keys) {
-        if (shardcache::Code code = cache_.open({.pages = pages, .rows = keys}); code != shardcache::Code::Done) {
+        if (shardcache::Code code = cache_.open({.pages = pages, .rows = keys, .waiting = UINT32_MAX}); code != shardcache::Code::Done) {
             std::fprintf(stderr, "open: %s\n", name(code).data());
             std::exit(1);
         }

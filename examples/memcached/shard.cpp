@@ -24,7 +24,7 @@ void Counts::add(const Counts &other) {
 Code Shard::open(std::uint32_t pages, std::int64_t started) {
     cas_ = dead_cas_ = std::uint64_t(started) << 20;
     now_ = started;
-    return cache_.open({.pages = pages, .rows = pages * 40});
+    return cache_.open({.pages = pages, .rows = pages * 40, .waiting = UINT32_MAX});
 }
 
 void Shard::set_now(std::int64_t seconds) {

@@ -36,7 +36,7 @@ class Shard {
     void know(Shard &other) { expect(other.inbox_.share(ways_.emplace_back()) == Code::Done, "a mailbox is shared"); }
 
     void open() {
-        expect(cache_.open({.pages = SC_FEWEST_PAGES, .rows = keys}) == Code::Done, "a cache opens");
+        expect(cache_.open({.pages = SC_FEWEST_PAGES, .rows = keys, .waiting = UINT32_MAX}) == Code::Done, "a cache opens");
         for (std::uint32_t key = 0; key < keys; key++) expect(bool(cache_.put(name(key), std::string(key, 'v'))), "a row is stored");
     }
 

@@ -71,7 +71,7 @@ void Shard::open() {
     for (Filling &filling : filling_)
         for (std::size_t i = 0; i < most_messages; i++)
             filling.idle.push_back(filling.all.emplace_back(std::make_unique<Message>()).get());
-    expect(cache_.open({.pages = 16384, .rows = all_keys}) == Code::Done, "a cache opens");
+    expect(cache_.open({.pages = 16384, .rows = all_keys, .waiting = UINT32_MAX}) == Code::Done, "a cache opens");
     for (std::uint32_t key : work_.keys_of(number_)) {
         Value value;
         value.key = key;

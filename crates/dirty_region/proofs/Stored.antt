@@ -7,6 +7,7 @@ use Rattle.std.proofs.lemmas.List.Sums.{sum_by-cons}
 use Rattle.rows.specs.Key.{Key}
 use Rattle.rows.specs.Row.{Row, size, live}
 use Rattle.row_bytes.specs.Rows.{row_in}
+use Rattle.layout.specs.Sizes.{most_segments}
 use Rattle.regions.specs.Segments.{RegionState, SegmentState, group_at, idle}
 use Rattle.regions.specs.Shapes.{Shape, shape, active_in, held_count, free_count, is_held, is_free, pieces_in, slots_of}
 use Rattle.regions.specs.Counts.{left, left_of, live_in, live_total, used_counts}
@@ -150,7 +151,7 @@ no_segments n = record { most = n; groups = replicate 1 idle; segments = replica
 abbrev pub no_puts : ℕ → RingState
 no_puts room = record { room = room; head = 0; count = 0; first = 0; places = replicate room nowhere }
 
-pub consistent_new : (ring : RingState) (index : PutRows) (r : RegionState) (rows n : ℕ) → ring ≡ no_puts rows → rows < 2 ^ 32 → r ≡ no_segments n → n ≤ 2048 → index.room ≡ rows → ((m : ℕ) → ¬ Has index m)
+pub consistent_new : (ring : RingState) (index : PutRows) (r : RegionState) (rows n : ℕ) → ring ≡ no_puts rows → rows < 2 ^ 32 → r ≡ no_segments n → n ≤ most_segments → index.room ≡ rows → ((m : ℕ) → ¬ Has index m)
     → ((key_of : ℕ → Key) → IsKeyed key_of index) → IsConsistent ring index r 0
 consistent_new ring index r rows n is_ring small is_region most room none keyed =
     subst (λ (x : RingState). IsConsistent x index r 0) (sym is_ring)

@@ -18,7 +18,7 @@ use thiserror::Error;
 pub struct Opening {
     /// The number of the shard, which the owner of the list of its blocks is.
     pub shard: u32,
-    /// 1,280 to 65,536, a multiple of 32; at least 1,536 where the rows of each table have segments of their own.
+    /// 1,280 to 524,288, a multiple of 32; at least 1,536 where the rows of each table have segments of their own.
     pub pages: u32,
     /// For how many rows there is room, 1 to 4,294,967,294.
     pub rows: u32,

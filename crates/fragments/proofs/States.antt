@@ -6,6 +6,7 @@ use Rattle.std.proofs.lemmas.Bool.Decides.{leb_tells}
 use Rattle.std.proofs.lemmas.List.{get_or-set_same, get_or-set_other, length-replicate, length-set, set_past}
 use Rattle.std.proofs.lemmas.List.Sums.{sum-map, sum_by-cons}
 use Rattle.std.proofs.lemmas.List.Folds.{sum_by-replicate}
+use Rattle.layout.specs.Sizes.{most_segments}
 use Rattle.regions.specs.Segments.{GroupState, RegionState, SegmentState, emptied, group_at, idle, with_guards}
 use Rattle.std.specs.List.{count_by, sum}
 use Rattle.regions.specs.Shapes.{Shape, active_in, active_of, free_count, group_count, held_count, is_free, is_held, Slot, shape, slot_of, slots_of}
@@ -94,7 +95,7 @@ consistent_set t u r s lengths now segments n o i entries entries_now names belo
       record {
         entries = entries_now;
         one = keeps.groups ∙ i.one;
-        few = subst (λ k. k ≤ 2048) (sym keeps.most) i.few;
+        few = subst (λ k. k ≤ most_segments) (sym keeps.most) i.few;
         chains = chains;
         parts = subst (λ (vs : Values). HoldParts u (live_at s) (all_parts vs [])) (sym read) hold;
         short = subst (λ (vs : Values). (k : ℕ) → IsShort (value_of vs k)) (sym read) (short_set (values_in t r) n o small short i.short);
@@ -202,7 +203,7 @@ consistent_more t r s lengths segments i entries keeps groups most held free tot
     record {
       entries = entries;
       one = groups ∙ i.one;
-      few = subst (λ k. k ≤ 2048) (sym most) i.few;
+      few = subst (λ k. k ≤ most_segments) (sym most) i.few;
       chains = chains_kept t (live_at r) (live_at s) same i.chains;
       parts = subst (λ (vs : Values). HoldParts t (live_at s) (all_parts vs [])) (sym values) (parts_kept t (live_at r) (live_at s) same i.chains (all_parts (values_in t r) []) i.parts);
       short = subst (λ (vs : Values). (k : ℕ) → IsShort (value_of vs k)) (sym values) i.short;
@@ -226,7 +227,7 @@ none_first zero e = refl
 none_first (suc n) zero = refl
 none_first (suc n) (suc e) = none_first n e
 
-module _ (t : TableState) (r : RegionState) (lengths : List ℕ) (segments : ℕ) (entries : AreEntries t) (one : group_count r ≡ 1) (small : (shape r).most ≤ 2048) (nothing : (p : Place) → live_at r p ≡ None)
+module _ (t : TableState) (r : RegionState) (lengths : List ℕ) (segments : ℕ) (entries : AreEntries t) (one : group_count r ≡ 1) (small : (shape r).most ≤ most_segments) (nothing : (p : Place) → live_at r p ≡ None)
     (firsts : t.firsts ≡ replicate (t.names + 1) None) (chains : t.chains ≡ replicate (t.names + 1) []) (many : length lengths ≡ t.names) (held : segments ≡ held_count r)
     (free : HasFree r) (total : live_total r ≡ 0) where
   no_fragment : (e i : ℕ) → place_at t.chains e i ≡ None

@@ -1,18 +1,19 @@
 -- How many keys and nodes a tree has: at least so many keys in its levels, and at most so many nodes with its keys.
-use Rattle.std.proofs.Common.{◌≡◌, ℕ, zero, suc, ◌+◌, ◌-◌, ◌*◌, ◌≤◌, inl, inr, List, [], ◌∷◌, ◌++◌, All, length, take, Option, Some, None, refl, sym, subst, arith, length-append}
+use Rattle.std.proofs.Common.{◌≡◌, ℕ, zero, suc, ◌+◌, ◌-◌, ◌*◌, ◌<◌, ◌≤◌, inl, inr, List, [], ◌∷◌, ◌++◌, All, length, take, Option, Some, None, refl, sym, subst, arith, length-append}
 use Rattle.std.specs.List.{flat_map}
 use Rattle.std.proofs.Math.Nat.{suc-mul}
 use Rattle.std.proofs.lemmas.Nat.{mul-le}
 use Rattle.std.proofs.lemmas.Bool.Decides.{leb_tells}
 use Rattle.std.proofs.lemmas.List.{length-take-le}
 use Rattle.std.proofs.lemmas.List.Elements.{All-head, All-tail}
+use Rattle.layout.specs.Sizes.{segment_pages, most_run_pages}
 use Rattle.segmented_store.specs.Room.{room}
 use Rattle.regions.specs.declared.place.Place.{Place}
 use Rattle.tree_nodes.specs.Nodes.{Entry, TreeNode, child_at}
 use Rattle.regions.specs.Places.{led_to, link_to}
 use Rattle.index_tree.specs.Links.{Nodes}
 use Rattle.index_tree.specs.Sizes.{most, node_object}
-use Rattle.index_tree.specs.Limits.{most_levels, most_segments}
+use Rattle.index_tree.specs.Limits.{most_levels, most_run_levels, most_segments}
 use Rattle.index_tree.specs.Store.{levels, levels_if}
 use Rattle.index_tree.specs.Trees.{IsNodeOf, IsSubtree, IsTree, TreeState, children_of, entries_of, held_below, index_of, left_of, nodes_below, right_of}
 use Rattle.place_lemmas.proofs.Places.{leads_on, some_none}
@@ -71,36 +72,50 @@ module _ (nodes : Nodes) where
       let more = mul-le 2 (fewest level) (suc (length node.entries)) (fewest level) (omega (arith, some)) (omega arith) in
       omega (arith, held, more)
 
--- a tree of seven levels has too many keys
-grown : (d level : ℕ) → level ≡ d + 5 → 472392 ≤ fewest level
-grown zero level is = subst (λ l. 472392 ≤ fewest l) {x = 5} {y = level} (omega (arith, is)) (omega arith)
-grown (suc d) zero is = absurd (omega (arith, is))
-grown (suc d) (suc level) is = (let rest = grown d level (omega (arith, is)) in omega (arith, rest))
+-- higher levels have no fewer keys
+grown : (d level top : ℕ) → level ≡ d + top → fewest top ≤ fewest level
+grown zero level top is = subst (λ l. fewest top ≤ fewest l) {x = top} {y = level} (omega (arith, is)) (omega arith)
+grown (suc d) zero top is = absurd (omega (arith, is))
+grown (suc d) (suc level) top is = (let rest = grown d level top (omega (arith, is)) in omega (arith, rest))
 
-low_level : (nodes : Nodes) (level : ℕ) (low high : Option (List ℕ)) (p : Place) → IsSubtree nodes level None low high p → length (held_below nodes level (Some p)) ≤ 387254 → level ≤ 5
-low_level nodes zero low high p sub few = omega arith
-low_level nodes (suc level) low high p sub few = elim (leb_tells 5 level) [
+-- with fewer keys than two children of the level `top` have, no root stands above it
+low_level : (nodes : Nodes) (top keys level : ℕ) (low high : Option (List ℕ)) (p : Place) → keys < 2 * fewest top → IsSubtree nodes level None low high p → length (held_below nodes level (Some p)) ≤ keys
+    → level ≤ top
+low_level nodes top keys zero low high p far sub few = omega arith
+low_level nodes top keys (suc level) low high p far sub few = elim (leb_tells top level) [
   | inl tall ↦
       (let high_enough = tall.1 in
       let held = root_holds nodes level low high p sub in
-      let many = grown (level - 5) level (omega (arith, high_enough)) in
-      absurd (omega (arith, held, many, few)))
+      let many = grown (level - top) level top (omega (arith, high_enough)) in
+      absurd (omega (arith, held, many, few, far)))
   | inr small ↦ (let s = small.1 in omega (arith, s))
 ]
 
 pub most_grows : (m n : ℕ) → m ≤ n → most m ≤ most n
 most_grows m n h = omega (arith, h)
 
-pub few_levels : (nodes : Nodes) (t : TreeState) (segments : ℕ) → IsTree nodes t → length (index_of nodes t) ≤ most segments → segments ≤ most_segments → levels t ≤ most_levels
-few_levels nodes t segments tree few held = go t.root refl
+-- of so many segments, whose keys are fewer than two children of the level `top` have
+levels_within : (nodes : Nodes) (t : TreeState) (top segments : ℕ) → IsTree nodes t → length (index_of nodes t) ≤ most segments → most segments < 2 * fewest top → levels t ≤ suc top
+levels_within nodes t top segments tree few far = go t.root refl
   where
-    go : (o : Option Place) → t.root ≡ o → levels_if o t.level ≤ most_levels
+    go : (o : Option Place) → t.root ≡ o → levels_if o t.level ≤ suc top
     go None e = omega arith
     go (Some p) e =
-        let more : most segments ≤ 387254 = most_grows segments most_segments held in
-        let small = low_level nodes t.level None None p (tree.rooted p e)
-        (subst (λ (o : Option Place). length (held_below nodes t.level o) ≤ 387254) e (omega (arith, few, more))) in
+        let small = low_level nodes top (most segments) t.level None None p far (tree.rooted p e)
+        (subst (λ (o : Option Place). length (held_below nodes t.level o) ≤ most segments) e few) in
         omega (arith, small)
+
+pub few_levels : (nodes : Nodes) (t : TreeState) (segments : ℕ) → IsTree nodes t → length (index_of nodes t) ≤ most segments → segments ≤ most_segments → levels t ≤ most_levels
+few_levels nodes t segments tree few held =
+    let more : most segments ≤ most most_segments = most_grows segments most_segments held in
+    let far : most most_segments < 2 * fewest 6 = omega arith in
+    levels_within nodes t 6 segments tree few (omega (arith, more, far))
+
+pub few_run_levels : (nodes : Nodes) (t : TreeState) (segments : ℕ) → IsTree nodes t → length (index_of nodes t) ≤ most segments → segment_pages * segments ≤ most_run_pages → levels t ≤ most_run_levels
+few_run_levels nodes t segments tree few held =
+    let more : most segments ≤ most 2048 = most_grows segments 2048 (omega (arith, held)) in
+    let far : most 2048 < 2 * fewest 5 = omega arith in
+    levels_within nodes t 5 segments tree few (omega (arith, more, far))
 
 -- ---- nodes
 

@@ -18,12 +18,13 @@ use Rattle.regions.specs.declared.place.Place.{Place}
 use Rattle.tree_nodes.specs.Nodes.{node_in}
 use Rattle.index_tree.specs.Indexes.{Index}
 use Rattle.index_tree.specs.Sizes.{most}
-use Rattle.index_tree.specs.Limits.{most_levels, most_segments}
+use Rattle.layout.specs.Sizes.{segment_pages, most_run_pages}
+use Rattle.index_tree.specs.Limits.{most_levels, most_run_levels, most_segments}
 use Rattle.index_tree.specs.Store.{levels, levels_if, nodes_of}
 use Rattle.index_tree.specs.Trees.{IsSpare, held_below, index_of}
 use Rattle.index_tree.specs.inside.Rosters.{IsRosterOf, RosterState}
 use Rattle.index_tree.specs.inside.Consistent.{HasFree, IsConsistent}
-use Rattle.index_tree.proofs.Counted.{few_levels, most_grows}
+use Rattle.index_tree.proofs.Counted.{few_levels, few_run_levels, most_grows}
 use Rattle.place_lemmas.proofs.Places.{some_none}
 
 active_guarded : (r : RegionState) (g guards : ℕ) → active_of (with_guards r g guards) 0 ≡ active_of r 0
@@ -82,6 +83,10 @@ consistent_more t r s keys segments i keeps groups held below numbers free total
 pub low_enough : (t : RosterState) (r : RegionState) (keys segments : ℕ) → IsConsistent t r keys segments → levels t.tree ≤ most_levels
 low_enough t r keys segments i =
     few_levels (nodes_of (live_at r)) t.tree (held_count r) i.roster.tree (subst (λ (x : Index). length x ≤ most (held_count r)) (sym i.roster.index) i.room) i.few
+
+pub low_enough_in_run : (t : RosterState) (r : RegionState) (keys segments : ℕ) → IsConsistent t r keys segments → segment_pages * held_count r ≤ most_run_pages → levels t.tree ≤ most_run_levels
+low_enough_in_run t r keys segments i held =
+    few_run_levels (nodes_of (live_at r)) t.tree (held_count r) i.roster.tree (subst (λ (x : Index). length x ≤ most (held_count r)) (sym i.roster.index) i.room) held
 
 -- there is no level exactly where there is no key
 pub none_high : (t : RosterState) (r : RegionState) (keys segments n : ℕ) → IsConsistent t r keys segments → n ≡ levels t.tree

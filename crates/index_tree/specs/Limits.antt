@@ -10,6 +10,9 @@ fewest_entries = 8
 abbrev pub most_spares : ℕ
 most_spares = 8
 
--- the most levels of a tree
+-- the most levels of a tree, and of one whose segments are no more than the pages that the program's words can ask for
 abbrev pub most_levels : ℕ
-most_levels = 6
+most_levels = 7
+
+abbrev pub most_run_levels : ℕ
+most_run_levels = 6

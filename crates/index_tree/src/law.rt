@@ -1,5 +1,5 @@
 //! Laws of the definitions.
-ghost use Rattle.std.specs.Prelude.{◌≡◌, ◌≢◌, ℕ, List, [], ◌∷◌, All, Option, None, Some, codes};
+ghost use Rattle.std.specs.Prelude.{◌≡◌, ◌≢◌, ℕ, ◌/◌, List, [], ◌∷◌, All, Option, None, Some, codes};
 ghost use Rattle.layout.specs.Sizes as sizes;
 ghost use Rattle.regions.specs.declared.place.Place.{Place};
 ghost use Rattle.index_tree.specs.Sizes.{node_room, most};
@@ -11,14 +11,15 @@ ghost use Rattle.index_tree.specs.Scans.{scanned};
 ghost use Rattle.index_tree.specs.Examples.{put_a, put_b, left_place, right_place, root_place, two_leaves, two_leaves_tree};
 ghost use Rattle.index_tree.specs.Moves.{moved, moved_tree};
 
-/// How many nodes 40 segments surely hold, and how many keys 40 segments and the most segments take.
+/// How many nodes 40 segments surely hold, and how many keys 40 segments, the most segments of a run, and the most segments take.
 ///
 /// # Examples
 /// A caller cites `sizes_are_as_worked();` for numbers: how many keys an index of 40 segments, or of the most, has room for.
 pub fn sizes_are_as_worked()
     ensures nodes { node_room 40 ≡ 1027 }
     ensures keys { most 40 ≡ 7126 }
-    ensures greatest { most sizes.most_segments ≡ 387254 }
+    ensures run { most (sizes.most_run_pages / sizes.segment_pages) ≡ 387254 }
+    ensures greatest { most sizes.most_segments ≡ 3101147 }
 {}
 
 /// What a move makes of a tree's nodes is a tree again, and stands for the same index.

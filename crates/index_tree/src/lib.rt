@@ -57,8 +57,8 @@
 //! - A guard and a segment that comes change no key (`add_segment`: `tree`, `objects`; `guard`, `unguard`). Through each move
 //!   of compaction the tree is of the same index: the moved node's children, the leaf in front of it and its parent name its
 //!   new place, and no other link changed (the law of `Movers`: `moved`).
-//! - The tree has at most 6 levels, and none exactly where there is no key (`facts`: `levels`; `height`). What is given up
-//!   leaves no key and no node, and every segment free (`give_up`).
+//! - The tree has at most 7 levels, at most 6 in segments of 65,536 pages, and none exactly where there is no key (`facts`:
+//!   `levels`, `run_levels`; `height`). What is given up leaves no key and no node, and every segment free (`give_up`).
 //! - Read in the code, in no clause: a find reads the first eight bytes of the keys of each node on its way, and at most six of
 //!   its keys whole; it takes no memory; at most 20 links are mended for a move.
 #![tactic(auto)]

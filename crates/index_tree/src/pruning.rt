@@ -5,6 +5,7 @@ ghost use Rattle.regions.specs.Stores.{SameBut};
 ghost use Rattle.regions.specs.declared.place.Place.{Place};
 ghost use Rattle.index_tree.specs.Indexes.{number_of};
 ghost use Rattle.index_tree.specs.Inserts.{times};
+ghost use Rattle.index_tree.specs.Limits.{most_levels};
 ghost use Rattle.index_tree.specs.Links.{Nodes};
 ghost use Rattle.index_tree.specs.Prunes.{Prunes};
 ghost use Rattle.index_tree.specs.Removes.{CanLose, Loses};
@@ -37,7 +38,7 @@ pub(crate) fn remove_at_root(
 ) -> Option<(u32, Pruned)>
     requires below { CanLose (nodes_of (live_at region.old)) level root key.now }
     requires whole { IsSubtree (nodes_of (live_at region.old)) level None None None root }
-    requires low { level ≤ 5 }
+    requires low { level < most_levels }
     requires nodes { HoldNodes (live_at region.old) }
     ensures number { option_map (λ left. left.0) result
         ≡ number_of key.now (held_below (nodes_of (live_at region.old)) level (Some root)) }

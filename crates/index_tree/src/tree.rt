@@ -8,7 +8,7 @@ ghost use Rattle.regions.specs.declared.place.Place.{Place};
 ghost use Rattle.tree_nodes.specs.Nodes.{IsEntry};
 ghost use Rattle.layout.specs.Kinds.{node_kind};
 ghost use Rattle.index_tree.specs.Sizes.{most};
-ghost use Rattle.index_tree.specs.Limits.{most_levels, most_spares};
+ghost use Rattle.index_tree.specs.Limits.{most_levels, most_run_levels, most_spares};
 ghost use Rattle.index_tree.specs.Indexes as indexes;
 ghost use Rattle.segmented_store.specs.Segments.{HoldsSegments};
 ghost use Rattle.index_tree.specs.Store.{index_in, levels, AreNodes, Stay};
@@ -104,6 +104,8 @@ impl IndexTree {
         ensures entries { All IsEntry (index_in self.now) }
         ensures room { length (index_in self.now) ≤ most (held_count self.now.region) }
         ensures levels { levels self.now.tree ≤ most_levels }
+        ensures run_levels { sizes.segment_pages * held_count self.now.region ≤ sizes.most_run_pages
+            → levels self.now.tree ≤ most_run_levels }
         ensures one { group_count self.now.region ≡ 1 }
     {
         let _ = &self.keys;
@@ -261,10 +263,12 @@ impl IndexTree {
         self.keys
     }
 
-    /// How many levels the tree has, at most 6; none where there is no key.
+    /// How many levels the tree has, at most 7, and in segments of 65,536 pages at most 6; none where there is no key.
     pub fn height(&self) -> u32
         ensures levels { result ≡ levels self.now.tree }
         ensures most { result ≤ most_levels }
+        ensures most_of_run { sizes.segment_pages * held_count self.now.region ≤ sizes.most_run_pages
+            → result ≤ most_run_levels }
         ensures none { (result ≡ 0) ↔ (index_in self.now ≡ []) }
     {
         self.roots.height()

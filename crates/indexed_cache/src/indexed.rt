@@ -2,7 +2,7 @@
 ghost use Rattle.std.specs.Prelude.{◌≡◌, ◌+◌, ◌-◌, ◌/◌, ◌^◌, ◌<◌, ◌≤◌, ◌&&◌, nat_lt, true, [], length, take, None, Contains, IfOk, OnOk};
 ghost use Rattle.std.specs.Bool.{OnTrue};
 ghost use Rattle.std.specs.List.{last_or};
-ghost use Rattle.layout.specs.Sizes.{segment_pages, tickets, ArePages};
+ghost use Rattle.layout.specs.Sizes.{segment_pages, most_segments, tickets, ArePages};
 ghost use Rattle.rows.specs.Apply.{apply};
 ghost use Rattle.rows.specs.Row.{is_of_put, live};
 ghost use Rattle.rows.specs.Spelled.{spelled, with_body};
@@ -44,7 +44,7 @@ impl Model for Indexed {
 /// frees none. At least as many as the fewest pages have, and at most as many as a range may have.
 fn segments_for(bytes: u64) -> u32
     ensures fewest { 40 ≤ result }
-    ensures most { result ≤ 2048 }
+    ensures most { result ≤ most_segments }
 {
     let segments = bytes / u64::from(DENSE) + 3;
     segments

@@ -14,7 +14,7 @@
 //!   free, and never an eviction.
 //! - All tables stand in one group of segments, whatever the shard has: which group a row is in shows nowhere.
 //! - Its pages are its own and not the shard's, made for the rows of all puts of the shard together. A range has at most
-//!   2,048 segments, which hold 243,015,696 bytes surely. A trace with its report in one input of 67,108,864 bytes has fewer:
+//!   16,384 segments, which hold 1,945,788,432 bytes surely. A trace with its report in one input of 67,108,864 bytes has fewer:
 //!   a command takes its line, its answer's line and its place in a journal there. Where there is no room the answer is want
 //!   of memory, so no clause rests on this.
 //! - An eviction takes the last row first and compares its put then: a row cache shows no last row. So which rows are there

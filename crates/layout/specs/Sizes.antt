@@ -14,20 +14,27 @@ segment_order = 5
 abbrev pub segment : ℕ
 segment = 131072
 
--- the greatest order of a span
+-- the greatest order of a span, and how many orders there are, from 0 on
 abbrev pub greatest_order : ℕ
-greatest_order = 16
+greatest_order = 19
+
+abbrev pub span_orders : ℕ
+span_orders = 20
 
 -- the pages of a shard
 abbrev pub fewest_pages : ℕ
 fewest_pages = 1280
 
 abbrev pub most_pages : ℕ
-most_pages = 65536
+most_pages = 524288
+
+-- the most pages of a shard that the program's words can ask for
+abbrev pub most_run_pages : ℕ
+most_run_pages = 65536
 
 -- the most segments of a shard
 abbrev pub most_segments : ℕ
-most_segments = 2048
+most_segments = 16384
 
 -- a multiple of the pages of a segment, within these bounds
 abbrev pub ArePages : ℕ → Type 0
@@ -114,4 +121,4 @@ most_trace_bytes = 67108864
 
 -- the pieces of a range that may be allocated at once
 abbrev pub most_pieces : ℕ
-most_pieces = 4096
+most_pieces = 32768

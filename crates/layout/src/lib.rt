@@ -12,7 +12,7 @@
 //!   turns.
 #![tactic(auto)]
 
-ghost use Rattle.std.specs.Prelude.{◌≡◌, ℕ, ◌+◌, ◌*◌, ◌^◌, ◌<◌};
+ghost use Rattle.std.specs.Prelude.{◌≡◌, ℕ, ◌+◌, ◌*◌, ◌^◌, ◌<◌, ◌≤◌};
 ghost use Rattle.layout.specs.Sizes as sizes;
 
 mod object_kind;
@@ -32,13 +32,16 @@ pub const SEGMENT_ORDER: u8 = 5;
 pub const SEGMENT: u32 = PAGE * SEGMENT_PAGES;
 
 /// The greatest order of a span.
-pub const GREATEST_ORDER: u8 = 16;
+pub const GREATEST_ORDER: u8 = 19;
 
 /// The fewest pages of a shard; they are always a multiple of [`SEGMENT_PAGES`].
 pub const FEWEST_PAGES: u32 = 1280;
 
-/// The most pages of a shard.
-pub const MOST_PAGES: u32 = 65_536;
+/// The most pages of a shard: 2 GiB.
+pub const MOST_PAGES: u32 = 524_288;
+
+/// The most pages of a shard that the program's words can ask for: 256 MiB.
+pub const MOST_RUN_PAGES: u32 = 65_536;
 
 /// The most segments of a shard.
 pub const MOST_SEGMENTS: u32 = MOST_PAGES / SEGMENT_PAGES;
@@ -111,6 +114,9 @@ pub fn sizes_hang_together()
     ensures segment { sizes.segment ≡ sizes.page * sizes.segment_pages }
     ensures most { sizes.most_segments * sizes.segment_pages ≡ sizes.most_pages }
     ensures order { sizes.segment_pages ≡ 2 ^ sizes.segment_order }
+    ensures longest { sizes.most_pages ≡ 2 ^ sizes.greatest_order }
+    ensures orders { sizes.span_orders ≡ sizes.greatest_order + 1 }
+    ensures runs { (sizes.fewest_pages ≤ sizes.most_run_pages) × (sizes.most_run_pages ≤ sizes.most_pages) }
     ensures dense { sizes.dense + sizes.greatest_object ≡ sizes.segment }
     ensures scan { sizes.scan_room ≡ sizes.message_header + sizes.most_keys * sizes.key_room }
     ensures request { sizes.greatest_request ≡ sizes.message_header + sizes.greatest_key + sizes.greatest_value }

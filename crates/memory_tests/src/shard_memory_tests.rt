@@ -1,10 +1,13 @@
 //! What no clause says: that memory is found, what fixed numbers give, and that blocks come home in any order.
 ghost use Rattle.std.specs.Prelude.{◌≡◌, ◌+◌, ◌≤◌, [], length};
+ghost use Rattle.layout.specs.Sizes.{ArePages};
 ghost use Rattle.shard_memory.specs.Shards.{most_blocks};
 
 use foreign_list::{Foreign, ForeignBlock};
+use layout::MOST_PAGES;
 use shard_memory::{GiveRefusal, ShardMemory, Share};
 use std::alloc::{AllocError, Global};
+use std::process::Abort;
 use std::test::Fail;
 
 const OWNER: u32 = 3;
@@ -172,10 +175,12 @@ fn leaves_no_page(memory: &mut ShardMemory<'_>) -> bool
     (given, memory.pages_out()) == ((131_072, 32), 0)
 }
 
-#[test]
-fn what_stays_leaves_its_pages_to_trim(rt: HostRuntime) -> Result<(), Fail> {
-    let (home, seat) = Foreign::new(rt.alloc(), OWNER)?;
-    let mut memory = match ShardMemory::open(rt.alloc(), OWNER, PAGES, &home, seat) {
+// A block and a segment are given of so many pages and come back, and the memory ends.
+fn expect_pages_left(rt: &impl Abort, alloc: Global, pages: u32) -> Result<(), Fail>
+    requires { ArePages pages }
+{
+    let (home, seat) = Foreign::new(alloc, OWNER)?;
+    let mut memory = match ShardMemory::open(alloc, OWNER, pages, &home, seat) {
         Ok(memory) => memory,
         Err(seat) => {
             home.close(seat);
@@ -187,6 +192,17 @@ fn what_stays_leaves_its_pages_to_trim(rt: HostRuntime) -> Result<(), Fail> {
     let seat = memory.finish();
     home.close(seat);
     Ok(())
+}
+
+#[test]
+fn what_stays_leaves_its_pages_to_trim(rt: HostRuntime) -> Result<(), Fail> {
+    expect_pages_left(&rt, rt.alloc(), PAGES)
+}
+
+// Of 2 GiB that are reserved a segment and a block are written.
+#[test]
+fn the_most_pages_are_opened_give_and_end(rt: HostRuntime) -> Result<(), Fail> {
+    expect_pages_left(&rt, rt.alloc(), MOST_PAGES)
 }
 
 // Whether no ticket is idle, and a block that stays is given all the same.

@@ -1,6 +1,8 @@
 //! What no contract says: that memory is there, and which spans fixed requests give.
 ghost use Rattle.std.specs.Prelude.{◌≡◌, ◌%◌, ◌≤◌};
+ghost use Rattle.layout.specs.Sizes.{greatest_order, segment_pages, fewest_pages, most_pages};
 
+use layout::{GREATEST_ORDER, MOST_PAGES};
 use span_lists::Spans;
 use std::alloc::{AllocError, Global};
 use std::marker::Model;
@@ -27,9 +29,9 @@ impl Model for Trial {
 
 impl Trial {
     fn new(alloc: Global, pages: u32) -> Result<Trial, AllocError>
-        requires whole { pages % 32 ≡ 0 }
-        requires least { 1280 ≤ pages }
-        requires most { pages ≤ 65536 }
+        requires whole { pages % segment_pages ≡ 0 }
+        requires least { fewest_pages ≤ pages }
+        requires most { pages ≤ most_pages }
     {
         let taken = vec![in alloc; None; pages as usize]?;
         let spans = Spans::new(alloc, pages)?;
@@ -37,7 +39,7 @@ impl Trial {
     }
 
     fn take(&mut self, order: u8) -> Option<u32>
-        requires { order ≤ 16 }
+        requires { order ≤ greatest_order }
     {
         let first = self.spans.take(order)?;
         if (first as usize) < self.taken.len() {
@@ -102,11 +104,11 @@ fn pages_given_back_in_another_order_leave_the_first_state(rt: HostRuntime) -> R
 
 #[test]
 fn the_greatest_range_is_one_span(rt: HostRuntime) -> Result<(), Fail> {
-    let mut trial = Trial::new(rt.alloc(), 65536)?;
-    assert_eq!(rt; trial.largest(), Some(16));
+    let mut trial = Trial::new(rt.alloc(), MOST_PAGES)?;
+    assert_eq!(rt; trial.largest(), Some(19));
     assert_eq!(rt; trial.take(0), Some(0));
-    assert_eq!(rt; trial.largest(), Some(15));
+    assert_eq!(rt; trial.largest(), Some(18));
     assert!(rt; trial.put(0, 0));
-    assert_eq!(rt; trial.take(16), Some(0));
+    assert_eq!(rt; trial.take(GREATEST_ORDER), Some(0));
     Ok(())
 }

@@ -5,7 +5,7 @@ ghost use Rattle.layout.specs.Sizes.{most_pages};
 use crate::free_bytes::FreeBytes;
 use crate::parts::{attach, detach};
 use crate::{Piece, Range};
-use layout::{MOST_PAGES, PAGE, SEGMENT};
+use layout::{MOST_RUN_PAGES, PAGE, SEGMENT};
 use linked_list_allocator::LocalHeap;
 use std::alloc::Global;
 use std::process::Abort;
@@ -40,7 +40,7 @@ fn two_pages_are_written_apart_and_put_back(rt: HostRuntime) -> Result<(), Fail>
     Ok(())
 }
 
-// The last page is taken while the first one is written already.
+// The last page is taken while the first one is written already. All pages below it are written then.
 fn expect_first_and_last_page(rt: &impl Abort, alloc: Global, pages: u32) -> Result<(), Fail>
     requires { (1 < pages) × (pages ≤ most_pages) }
 {
@@ -60,10 +60,10 @@ fn expect_first_and_last_page(rt: &impl Abort, alloc: Global, pages: u32) -> Res
 }
 
 #[test]
-fn the_first_and_the_last_page_of_the_greatest_range_are_apart(
+fn the_first_and_the_last_page_of_the_greatest_range_of_a_run_are_apart(
     rt: HostRuntime,
 ) -> Result<(), Fail> {
-    expect_first_and_last_page(&rt, rt.alloc(), MOST_PAGES)
+    expect_first_and_last_page(&rt, rt.alloc(), MOST_RUN_PAGES)
 }
 
 // A range takes its vector apart so, and `finish` puts it together and drops it. Half of it was written then.

@@ -4,6 +4,7 @@ use Rattle.std.specs.Prelude.{Option, None, Some, option_map, slice_set}
 use Rattle.std.specs.List.{count_by}
 use Rattle.std.proofs.lemmas.List.{length-map, map-set}
 use Rattle.std.proofs.Math.ListN.{get_or-map}
+use Rattle.layout.specs.Sizes.{most_segments}
 use Rattle.regions.specs.Segments.{SegmentState, RegionState, emptied, ended}
 use Rattle.regions.specs.Shapes.{slot_of, slots_of, slot_at, active_in, is_held, is_free, is_begun}
 use Rattle.regions.specs.Counts.{used_in, used_in_each, live_in_each}
@@ -56,7 +57,7 @@ pub cleared-states : (groups : List GroupFields) → states (map cleared groups)
 cleared-states [] = refl
 cleared-states (f ∷ fs) = ap (λ gs. ended f.state ∷ gs) (cleared-states fs)
 
-pub emptied-fields : (most : ℕ) (groups : List GroupFields) (held : List Bool) (segs : List (Option SegmentState)) → most ≤ 2048 → length segs ≡ most → held ≡ map is_held (slots_of segs) → AreUnused most groups
+pub emptied-fields : (most : ℕ) (groups : List GroupFields) (held : List Bool) (segs : List (Option SegmentState)) → most ≤ most_segments → length segs ≡ most → held ≡ map is_held (slots_of segs) → AreUnused most groups
     → Fields most groups held held (emptied-all segs)
 emptied-fields most groups held segs few long is free =
     subst (λ h. Fields most groups h held (emptied-all segs)) (emptied-held-numbers segs ∙ sym is)

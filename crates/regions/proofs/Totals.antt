@@ -5,7 +5,7 @@ use Rattle.std.specs.List.{sum}
 use Rattle.std.proofs.lemmas.Bool.{cases_eq}
 use Rattle.std.proofs.lemmas.List.{get_or-set_same, get_or-set_other, length-map}
 use Rattle.std.proofs.lemmas.List.Sums.{sum_by-cons}
-use Rattle.layout.specs.Sizes.{segment}
+use Rattle.layout.specs.Sizes.{segment, most_segments}
 use Rattle.regions.specs.Segments.{SegmentState}
 use Rattle.regions.specs.Shapes.{slot_of}
 use Rattle.regions.specs.Counts.{live_in, live_in_each, plus}
@@ -26,9 +26,9 @@ sum-within [] all = omega arith
 sum-within (x ∷ xs) all =
     let step = sum_by-cons (λ y. y) x xs in let here : x ≤ segment = all 0 in let rest = sum-within xs (λ n. all (suc n)) in omega (arith, step, here, rest)
 
--- 2,048 segments at most are held
+-- so many segments at most are held
 pub total-small : (most : ℕ) (groups : List GroupFields) (held free : List Bool) (segs : List (Option SegmentState)) (total : ℕ) → Fields most groups held free segs → IsTotal total (live_in_each segs)
-    → total ≤ 268435456
+    → total ≤ most_segments * segment
 total-small most groups held free segs total c t =
     let sums = sum-within (live_in_each segs) t.within in let is = t.summed in
     let counts : length (live_in_each segs) ≡ length segs = length-map segs live_in in let slots = length-map segs (λ s. option_map slot_of s) in

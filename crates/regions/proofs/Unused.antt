@@ -2,6 +2,7 @@
 use Rattle.std.proofs.Common.{◌≡◌, ℕ, zero, suc, ◌<◌, ◌≤◌, Bool, false, cond, List, ◌∷◌, length, replicate, map, refl, sym, ap, ◌∙◌, subst, arith, get_or}
 use Rattle.std.specs.Prelude.{Option, None, Some, option_map, slice_index}
 use Rattle.std.proofs.lemmas.List.{length-map, length-replicate}
+use Rattle.layout.specs.Sizes.{most_segments}
 use Rattle.regions.specs.Segments.{SegmentState, idle, emptied}
 use Rattle.regions.specs.Shapes.{Slot, slot_of, slots_of, slot_at, group_in, active_in, is_held, is_free, is_begun}
 use Rattle.regions.specs.Counts.{used_in, live_in_each}
@@ -28,7 +29,7 @@ pub record AreUnused (most : ℕ) (groups : List GroupFields) : Type 0 where
   pub table : (g : ℕ) → g < length groups → (fields_at groups g).table ≡ replicate most not_closed
 
 -- fields that say that nothing is begun
-pub nothing-begun : (most : ℕ) (groups : List GroupFields) (segs : List (Option SegmentState)) → most ≤ 2048 → length segs ≡ most → AreUnused most groups
+pub nothing-begun : (most : ℕ) (groups : List GroupFields) (segs : List (Option SegmentState)) → most ≤ most_segments → length segs ≡ most → AreUnused most groups
     → ((m : ℕ) → (used_in (get_or segs m None) ≡ 0) × (is_begun (option_map slot_of (get_or segs m None)) ≡ false))
     → Fields most groups (map is_held (slots_of segs)) (map is_free (slots_of segs)) segs
 nothing-begun most groups segs few long free unbegun =
@@ -78,7 +79,7 @@ pub new-states : (most count : ℕ) → states (replicate count (unused most)) �
 new-states most zero = refl
 new-states most (suc count) = ap (λ gs. idle ∷ gs) (new-states most count)
 
-pub new-fields : (most count : ℕ) → most ≤ 2048 → 1 ≤ count → count ≤ 8 → Fields most (replicate count (unused most)) (replicate most false) (replicate most false) (replicate most None)
+pub new-fields : (most count : ℕ) → most ≤ most_segments → 1 ≤ count → count ≤ 8 → Fields most (replicate count (unused most)) (replicate most false) (replicate most false) (replicate most None)
 new-fields most count few some-groups few-groups =
     let segs : List (Option SegmentState) = replicate most None in
     let groups : List GroupFields = replicate count (unused most) in

@@ -9,7 +9,7 @@ use Rattle.clap.specs.Faults.{fault_of}
 use Rattle.clap.specs.Simple.{App, matches_of, new_app, new_rule, on_top, with_rule}
 use Rattle.clap.specs.Walk.{Row, Rule, first_of, is_empty}
 use Rattle.clap.specs.declared.builder.action.ArgAction.TheVariants.{Set}
-use Rattle.layout.specs.Sizes.{fewest_pages, most_pages, segment_pages}
+use Rattle.layout.specs.Sizes.{fewest_pages, most_run_pages, segment_pages}
 use Rattle.trace_text.specs.Parts.{most_shards}
 use Rattle.settings.specs.declared.settings.Settings.{Settings as Found}
 use Rattle.settings.specs.declared.settings.mode.Mode.{Mode}
@@ -122,7 +122,7 @@ settings_in rows = do
   word ← first_of (codes "mode") rows
   mode ← mode_of word
   shards ← number_within 1 most_shards 1 (first_of (codes "shards") rows)
-  pages ← number_within fewest_pages most_pages default_pages (first_of (codes "pages") rows)
+  pages ← number_within fewest_pages most_run_pages default_pages (first_of (codes "pages") rows)
   number ← number_within 0 greatest_number 0 (first_of (codes "number") rows)
   commands ← number_within 1 most_made_commands most_made_commands (first_of (codes "commands") rows)
   if are_pages shards pages && are_shards mode shards then Some (record {

@@ -12,7 +12,7 @@ mod number;
 use clap::ArgMatches;
 use clap::error::ErrorKind;
 use command::command;
-use layout::{FEWEST_PAGES, MOST_PAGES, SEGMENT_PAGES};
+use layout::{FEWEST_PAGES, MOST_RUN_PAGES, SEGMENT_PAGES};
 pub use mode::Mode;
 use mode::{are_shards, mode_of};
 use number::number_within;
@@ -73,7 +73,7 @@ fn settings_in(matches: &ArgMatches<'_>) -> Option<Settings>
     let mode = mode_of(value_of(matches, "mode")?)?;
     let shards = number_within(value_of(matches, "shards"), 1, MOST_SHARDS, 1)?;
     let pages = value_of(matches, "pages");
-    let pages = number_within(pages, FEWEST_PAGES, MOST_PAGES, DEFAULT_PAGES)?;
+    let pages = number_within(pages, FEWEST_PAGES, MOST_RUN_PAGES, DEFAULT_PAGES)?;
     let number = number_within(value_of(matches, "number"), 0, u32::MAX, 0)?;
     let commands = value_of(matches, "commands");
     let commands = number_within(commands, 1, MOST_MADE_COMMANDS, MOST_MADE_COMMANDS)?;

@@ -10,6 +10,7 @@ use Rattle.common_lemmas.proofs.Orders.{trichotomy}
 use Rattle.common_lemmas.specs.Lists.{times}
 use Rattle.common_lemmas.proofs.Counts.{times_here, times_there, length_below}
 use Rattle.layout.specs.Extents.{Extent, Disjoint, IsWithin, AreDisjoint}
+use Rattle.layout.specs.Sizes.{most_pages, most_pieces, most_segments}
 use Rattle.raw_range.specs.Memory.{remove_extent}
 use Rattle.shard_memory.specs.inside.Parts.{is_segment, is_block, segments_of, blocks_of}
 use Rattle.shard_memory.specs.inside.Pieces.{most_out}
@@ -147,9 +148,9 @@ few_segments n size ps blocks small =
     omega (arith, low, len)
 
 -- with so few pages there is room for one more piece
-pub few_pieces : (pages : ℕ) (allocated : List Extent) → pages ≤ 65536 → AreDisjoint (4096 * pages) allocated → length (blocks_of allocated) ≤ most_out → length allocated < 4096
+pub few_pieces : (pages : ℕ) (allocated : List Extent) → pages ≤ most_pages → AreDisjoint (4096 * pages) allocated → length (blocks_of allocated) ≤ most_out → length allocated < most_pieces
 few_pieces pages allocated most blocks few =
-    let segs = few_segments 2048 (4096 * pages) allocated blocks (omega (arith, most)) in
+    let segs = few_segments most_segments (4096 * pages) allocated blocks (omega (arith, most)) in
     let both = both_kinds allocated in
     omega (arith, segs, both, few)
 

@@ -5,6 +5,7 @@ use Rattle.std.proofs.lemmas.Bool.{cases_eq}
 use Rattle.std.specs.Ordering.{nat_cmp}
 use Rattle.std.specs.FinMap as map
 use Rattle.layout.specs.Extents.{Extent, extent, Disjoint, AreDisjoint}
+use Rattle.layout.specs.Sizes.{most_pages}
 use Rattle.raw_range.specs.Memory.{remove_extent}
 use Rattle.span_lists.specs.Layout.{Layout, IsAllocated, Divides, IsCoalesced}
 use Rattle.common_lemmas.proofs.Orders.{trichotomy}
@@ -335,7 +336,7 @@ gave_block n allocated spans spans' pools pools' at class len h free e pages hol
 
 -- ---- the start
 
-pub all_free : (n m : ℕ) (allocated : List Extent) (spans : Layout) (pools : Objects) → m ≡ n → n ≤ 65536 → n % 32 ≡ 0 → allocated ≡ [] → spans.pages ≡ n → spans.allocated ≡ map.empty
+pub all_free : (n m : ℕ) (allocated : List Extent) (spans : Layout) (pools : Objects) → m ≡ n → n ≤ most_pages → n % 32 ≡ 0 → allocated ≡ [] → spans.pages ≡ n → spans.allocated ≡ map.empty
     → pools.pages ≡ n → pools.held ≡ map.empty → pools.allocated ≡ map.empty → AreObjects pools → Divides spans → IsCoalesced spans → IsConsistent m allocated spans pools
 all_free n m allocated spans pools e most whole none spans_pages no_spans pools_pages no_held no_allocated objects divided coalesced =
     let empty_at : (x : map.FinMap nat_cmp ℕ) (g k : ℕ) → x ≡ map.empty → map.get x g ≢ Some k = λ x g k w o. (let clash : None ≡ Some k = sym (ap (λ y. map.get y g) w ∙ map.get-empty nat_cmp g) ∙ o in cc) in

@@ -10,6 +10,7 @@ use Rattle.index_lists.specs.Lists.{Lists, list_at, with_list}
 use Rattle.common_lemmas.proofs.Orders.{lt_or_ge}
 use Rattle.common_lemmas.specs.Lists.{times, delete}
 use Rattle.common_lemmas.proofs.Counts.{times_here, times_there, times-delete_same, times-delete_other, length-delete}
+use Rattle.layout.specs.Sizes.{greatest_order, span_orders}
 use Rattle.span_lists.specs.declared.spans.PageState.{PageState}
 use Rattle.span_lists.specs.declared.spans.PageState.TheVariants.{Inside, Free, Allocated}
 use Rattle.span_lists.specs.Buddies.{buddy}
@@ -52,9 +53,9 @@ buddy_apart x k e =
 
 -- the lists have the free spans, each once
 abbrev pub IsListed : List (List ℕ) → List PageState → Type 0
-IsListed lists states = (k x : ℕ) → k < 17 → times x (get_or lists k []) ≡ mark k (state_at states x)
+IsListed lists states = (k x : ℕ) → k < span_orders → times x (get_or lists k []) ≡ mark k (state_at states x)
 
-listed_remove : (lists : List (List ℕ)) (states states' : List PageState) (k b : ℕ) → length lists ≡ 17 → k < 17 → IsListed lists states → state_at states b ≡ Free k
+listed_remove : (lists : List (List ℕ)) (states states' : List PageState) (k b : ℕ) → length lists ≡ span_orders → k < span_orders → IsListed lists states → state_at states b ≡ Free k
     → ((j : ℕ) → mark j (state_at states' b) ≡ 0) → ((z j : ℕ) → z ≢ b → mark j (state_at states' z) ≡ mark j (state_at states z))
     → IsListed (set lists k (delete b (get_or lists k []))) states'
 listed_remove lists states states' k b len small listed was none others j x h =
@@ -75,7 +76,7 @@ listed_remove lists states states' k b len small listed was none others j x h =
           ]))
     ]
 
-pub listed_push : (lists : List (List ℕ)) (states states' : List PageState) (k b : ℕ) → length lists ≡ 17 → k < 17 → IsListed lists states → state_at states' b ≡ Free k
+pub listed_push : (lists : List (List ℕ)) (states states' : List PageState) (k b : ℕ) → length lists ≡ span_orders → k < span_orders → IsListed lists states → state_at states' b ≡ Free k
     → ((j : ℕ) → mark j (state_at states b) ≡ 0) → ((z j : ℕ) → z ≢ b → mark j (state_at states' z) ≡ mark j (state_at states z))
     → IsListed (set lists k (b ∷ get_or lists k [])) states'
 listed_push lists states states' k b len small listed now none others j x h =
@@ -134,7 +135,7 @@ cut_kept pages states x v inside same cut = same_cut pages _ _ (λ y. elim (case
 ]) cut
 
 -- a free span is allocated
-pub consistent_allocate : (pages : ℕ) (states : List PageState) (lists : Lists) (free x k : ℕ) → IsConsistent pages states lists free → k < 17 → 1 ≤ times x (list_at lists k)
+pub consistent_allocate : (pages : ℕ) (states : List PageState) (lists : Lists) (free x k : ℕ) → IsConsistent pages states lists free → k < span_orders → 1 ≤ times x (list_at lists k)
     → (2 ^ k ≤ free) × IsConsistent pages (set states x (Allocated k)) (with_list lists k (delete x (list_at lists k))) (free - 2 ^ k)
 consistent_allocate pages states lists free x k h small held =
     let was : state_at states x ≡ Free k = free_of_mark k _ (subst (λ n. 1 ≤ n) (h.listed k x small) held) in
@@ -169,8 +170,8 @@ consistent_allocate pages states lists free x k h small held =
     )
 
 -- an allocated span comes back, where its buddy is not free
-pub consistent_release : (pages : ℕ) (states : List PageState) (lists : Lists) (free x k : ℕ) → IsConsistent pages states lists free → k < 17 → state_at states x ≡ Allocated k
-    → (k < 16 → state_at states (buddy x k) ≢ Free k)
+pub consistent_release : (pages : ℕ) (states : List PageState) (lists : Lists) (free x k : ℕ) → IsConsistent pages states lists free → k < span_orders → state_at states x ≡ Allocated k
+    → (k < greatest_order → state_at states (buddy x k) ≢ Free k)
     → (free + 2 ^ k ≤ pages) × IsConsistent pages (set states x (Free k)) (with_list lists k (x ∷ list_at lists k)) (free + 2 ^ k)
 consistent_release pages states lists free x k h small was apart =
     let inside : x < length states = state_within states x (λ e. (let clash : Inside ≡ Allocated k = sym e ∙ was in cc)) in
@@ -198,7 +199,7 @@ consistent_release pages states lists free x k h small was apart =
               | inl yx ↦
                   (let jk : k ≡ j = (let s : Free k ≡ Free j = sym now ∙ ap (state_at states') (sym yx) ∙ e in cc) in
                   let d' : state_at states' (buddy x k) ≡ Free k = subst (λ z. state_at states' (buddy x z) ≡ Free z) (sym jk) (subst (λ z. state_at states' (buddy z j) ≡ Free j) yx d) in
-                  let small_k : k < 16 = subst (λ z. z < 16) (sym jk) b in
+                  let small_k : k < greatest_order = subst (λ z. z < greatest_order) (sym jk) b in
                   elim (cases_eq (buddy x k) x) [
                     | inl bx ↦ (let alone = buddy_apart x k in alone bx)
                     | inr nb ↦ apart small_k (sym (others (buddy x k) nb) ∙ d')
@@ -207,7 +208,7 @@ consistent_release pages states lists free x k h small was apart =
                 | inl bx ↦
                     (let jk : k ≡ j = (let s : Free k ≡ Free j = sym now ∙ ap (state_at states') (sym bx) ∙ d in cc) in
                     let yb : y ≡ buddy x k = sym (buddy_twice y j) ∙ ap (λ z. buddy z j) bx ∙ ap (λ z. buddy x z) (sym jk) in
-                    let small_k : k < 16 = subst (λ z. z < 16) (sym jk) b in
+                    let small_k : k < greatest_order = subst (λ z. z < greatest_order) (sym jk) b in
                     apart small_k (ap (state_at states) (sym yb) ∙ sym (others y ny) ∙ e ∙ ap (λ z. Free z) (sym jk)))
                 | inr nb ↦ h.coalesced y j b (sym (others y ny) ∙ e) (sym (others (buddy y j) nb) ∙ d)
               ]
@@ -219,7 +220,7 @@ consistent_release pages states lists free x k h small was apart =
 
 -- an allocated span is split, and its upper half is free
 pub consistent_split : (pages : ℕ) (states : List PageState) (lists : Lists) (free x k : ℕ) → IsConsistent pages states lists free → state_at states x ≡ Allocated (k + 1)
-    → (x + 2 ^ (k + 1) ≤ pages) × (k < 16) × (free + 2 ^ k ≤ pages) × ((j : ℕ) → j < 17 → times (x + 2 ^ k) (list_at lists j) ≡ 0)
+    → (x + 2 ^ (k + 1) ≤ pages) × (k < greatest_order) × (free + 2 ^ k ≤ pages) × ((j : ℕ) → j < span_orders → times (x + 2 ^ k) (list_at lists j) ≡ 0)
     × IsConsistent pages (set (set states x (Allocated k)) (x + 2 ^ k) (Free k)) (with_list lists k ((x + 2 ^ k) ∷ list_at lists k)) (free + 2 ^ k)
 consistent_split pages states lists free x k h was =
     let s : IsSpanAt pages (λ y. order_of (state_at states y)) x (k + 1) = h.cut.spans x (k + 1) (ap order_of was) in
@@ -290,7 +291,7 @@ consistent_split pages states lists free x k h was =
     )
 
 -- two allocated buddies coalesce
-pub consistent_coalesce_pair : (pages : ℕ) (states : List PageState) (lists : Lists) (free x k : ℕ) → IsConsistent pages states lists free → k < 16 → x % 2 ^ (k + 1) ≡ 0 → state_at states x ≡ Allocated k → state_at states (x + 2 ^ k) ≡ Allocated k
+pub consistent_coalesce_pair : (pages : ℕ) (states : List PageState) (lists : Lists) (free x k : ℕ) → IsConsistent pages states lists free → k < greatest_order → x % 2 ^ (k + 1) ≡ 0 → state_at states x ≡ Allocated k → state_at states (x + 2 ^ k) ≡ Allocated k
     → (x + 2 ^ (k + 1) ≤ pages) × IsConsistent pages (set (set states (x + 2 ^ k) Inside) x (Allocated (k + 1))) lists free
 consistent_coalesce_pair pages states lists free x k h small aligned was was_u =
     let u = x + 2 ^ k in

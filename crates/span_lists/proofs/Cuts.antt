@@ -2,6 +2,7 @@
 use Rattle.std.proofs.Common.{◌≡◌, ◌≢◌, ℕ, ◌+◌, ◌%◌, ◌^◌, ◌<◌, ◌≤◌, inl, inr, Option, Some, None, sym, ap, subst, ◌∙◌, arith}
 use Rattle.std.proofs.lemmas.Nat.{pow_pos}
 use Rattle.std.proofs.lemmas.Bool.{cases_eq}
+use Rattle.layout.specs.Sizes.{greatest_order}
 use Rattle.span_lists.specs.inside.Pages.{IsSpanAt, IsCut}
 use Rattle.common_lemmas.proofs.Orders.{lt_or_ge, trichotomy}
 use Rattle.common_lemmas.proofs.Orders.{lt_or_ge, trichotomy}
@@ -33,7 +34,7 @@ cut_split pages at at' x k h was low high others =
     let pos = pow_pos k in
     let a_low = coarser x k (k + 1) (omega arith) s.aligned in
     let a_high = aligned_add x (2 ^ k) (2 ^ k) a_low (aligned_pow k k (omega arith)) in
-    let order : k ≤ 16 = (let o = s.order in omega (arith, o)) in
+    let order : k ≤ greatest_order = (let o = s.order in omega (arith, o)) in
     let within = s.within in
     let alone_low : (i : ℕ) → x < i → i < x + 2 ^ k → at' i ≡ None = (λ i l u. others i (λ e. absurd (omega arith)) (λ e. absurd (omega arith)) ∙ s.alone i l (omega arith)) in
     let alone_high : (i : ℕ) → x + 2 ^ k < i → i < x + 2 ^ k + 2 ^ k → at' i ≡ None = (λ i l u. others i (λ e. absurd (omega arith)) (λ e. absurd (omega arith)) ∙ s.alone i (omega arith) (omega arith)) in
@@ -84,7 +85,7 @@ cut_split pages at at' x k h was low high others =
     }
 
 -- two buddies coalesce
-pub cut_coalesced : (pages : ℕ) (at at' : ℕ → Option ℕ) (x k : ℕ) → IsCut pages at → k < 16 → x % 2 ^ (k + 1) ≡ 0 → at x ≡ Some k → at (x + 2 ^ k) ≡ Some k
+pub cut_coalesced : (pages : ℕ) (at at' : ℕ → Option ℕ) (x k : ℕ) → IsCut pages at → k < greatest_order → x % 2 ^ (k + 1) ≡ 0 → at x ≡ Some k → at (x + 2 ^ k) ≡ Some k
     → at' x ≡ Some (k + 1) → at' (x + 2 ^ k) ≡ None → ((y : ℕ) → y ≢ x → y ≢ x + 2 ^ k → at' y ≡ at y) → IsCut pages at'
 cut_coalesced pages at at' x k h small aligned was_low was_high low high others =
     let s = h.spans x k was_low in

@@ -11,6 +11,7 @@ use Rattle.index_lists.specs.Lists.{Lists, list_at, with_list}
 use Rattle.common_lemmas.proofs.Orders.{lt_or_ge}
 use Rattle.common_lemmas.proofs.Options.{some_is}
 use Rattle.common_lemmas.specs.Lists.{times}
+use Rattle.layout.specs.Sizes.{most_pages, greatest_order, span_orders}
 use Rattle.span_lists.specs.declared.spans.PageState.{PageState}
 use Rattle.span_lists.specs.declared.spans.PageState.TheVariants.{Inside, Free, Allocated}
 use Rattle.span_lists.specs.inside.Pages.{order_of, allocated_order_of, mark, allocated_pages_of, state_at, IsSpanAt, IsCut, IsConsistent, IsBegun, allocated_of}
@@ -30,11 +31,11 @@ no_list zero k = refl
 no_list (suc m) zero = refl
 no_list (suc m) (suc k) = no_list m k
 
-begun : (pages : ℕ) → IsBegun pages 0 17 (replicate pages Inside) (record { indices = pages; lists = replicate 17 [] })
+begun : (pages : ℕ) → IsBegun pages 0 span_orders (replicate pages Inside) (record { indices = pages; lists = replicate span_orders [] })
 begun pages = record {
   states_len = length-replicate {A = PageState} pages Inside;
   indices = refl;
-  orders = length-replicate {A = List ℕ} 17 [];
+  orders = length-replicate {A = List ℕ} span_orders [];
   cut = record {
     spans = λ x k e. absurd (let clash : None ≡ Some k = sym (ap order_of (all_inside pages x)) ∙ e in cc);
     covered = λ x l. absurd (omega arith);
@@ -43,18 +44,18 @@ begun pages = record {
   least_order = λ x k e. absurd (let clash : Inside ≡ Free k = sym (all_inside pages x) ∙ e in cc);
   one = λ x y k e d. absurd (let clash : Inside ≡ Free k = sym (all_inside pages x) ∙ e in cc);
   none_allocated = λ x. ap allocated_order_of (all_inside pages x);
-  listed = λ k x l. ap (times x) (no_list 17 k) ∙ sym (ap (mark k) (all_inside pages x));
-  count = sym (pages_from-replicate 0 17);
+  listed = λ k x l. ap (times x) (no_list span_orders k) ∙ sym (ap (mark k) (all_inside pages x));
+  count = sym (pages_from-replicate 0 span_orders);
 }
 
-pub begun_with_none : (pages : ℕ) (states : List PageState) (lists : Lists) → states ≡ replicate pages Inside → lists ≡ record { indices = pages; lists = replicate 17 [] } → IsBegun pages 0 17 states lists
+pub begun_with_none : (pages : ℕ) (states : List PageState) (lists : Lists) → states ≡ replicate pages Inside → lists ≡ record { indices = pages; lists = replicate span_orders [] } → IsBegun pages 0 span_orders states lists
 begun_with_none pages states lists es el =
-    subst (λ s. IsBegun pages 0 17 s lists) (sym es) (subst (λ l. IsBegun pages 0 17 (replicate pages Inside) l) (sym el) (begun pages))
+    subst (λ s. IsBegun pages 0 span_orders s lists) (sym es) (subst (λ l. IsBegun pages 0 span_orders (replicate pages Inside) l) (sym el) (begun pages))
 
 -- ---- one more span
 
 -- a span begins where the spans before it end
-cut_more : (end k : ℕ) (at at' : ℕ → Option ℕ) → IsCut end at → k ≤ 16 → end % 2 ^ k ≡ 0 → ((x : ℕ) → end ≤ x → at x ≡ None) → at' end ≡ Some k → ((x : ℕ) → x ≢ end → at' x ≡ at x) → IsCut (end + 2 ^ k) at'
+cut_more : (end k : ℕ) (at at' : ℕ → Option ℕ) → IsCut end at → k ≤ greatest_order → end % 2 ^ k ≡ 0 → ((x : ℕ) → end ≤ x → at x ≡ None) → at' end ≡ Some k → ((x : ℕ) → x ≢ end → at' x ≡ at x) → IsCut (end + 2 ^ k) at'
 cut_more end k at at' h small aligned beyond here others = record {
   spans = λ x j e. elim (cases_eq x end) [
     | inl q ↦
@@ -70,7 +71,7 @@ cut_more end k at at' h small aligned beyond here others = record {
   ];
 }
 
-pub begun_more : (pages first least k : ℕ) (states : List PageState) (lists : Lists) → IsBegun pages first least states lists → k < least → least ≤ 17 → first % 2 ^ k ≡ 0 → first < pages
+pub begun_more : (pages first least k : ℕ) (states : List PageState) (lists : Lists) → IsBegun pages first least states lists → k < least → least ≤ span_orders → first % 2 ^ k ≡ 0 → first < pages
     → IsBegun pages (first + 2 ^ k) k (set states first (Free k)) (with_list lists k (first ∷ list_at lists k))
 begun_more pages first least k states lists h less most aligned within =
     let n = h.states_len in let o = h.orders in
@@ -138,7 +139,7 @@ none_counted (Inside ∷ states) none = (let one = sum_by-cons allocated_pages_o
 none_counted (Free k ∷ states) none = (let one = sum_by-cons allocated_pages_of (Free k) states in let rest = none_counted states (λ x. none (suc x)) in omega (arith, one, rest))
 none_counted (Allocated k ∷ states) none = absurd (let clash : Some k ≡ None = none 0 in cc)
 
-pub consistent_begun : (pages first least : ℕ) (states : List PageState) (lists : Lists) → IsBegun pages first least states lists → first ≡ pages → pages ≤ 65536 → IsConsistent pages states lists pages
+pub consistent_begun : (pages first least : ℕ) (states : List PageState) (lists : Lists) → IsBegun pages first least states lists → first ≡ pages → pages ≤ most_pages → IsConsistent pages states lists pages
 consistent_begun pages first least states lists h all small = record {
   small = small;
   states_len = h.states_len;

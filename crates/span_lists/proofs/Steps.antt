@@ -7,6 +7,7 @@ use Rattle.std.specs.FinMap as map
 use Rattle.common_lemmas.proofs.Orders.{lt_or_ge}
 use Rattle.common_lemmas.specs.Lists.{times, delete}
 use Rattle.common_lemmas.proofs.Counts.{times_here}
+use Rattle.layout.specs.Sizes.{greatest_order, span_orders}
 use Rattle.span_lists.specs.Buddies.{buddy}
 use Rattle.span_lists.specs.Layout.{Layout, free_at, IsFree, IsAllocated, Divides, IsCoalesced, HasNone, TakesFrom, CoalescesInto, IsFirstOf, span_start}
 use Rattle.span_lists.specs.inside.Steps.{IsSplitTo, IsCoalescedTo, MayBegin}
@@ -47,7 +48,7 @@ split_none old first from allocated divided coalesced = record {
   coalesced = coalesced;
 }
 
-pub split_more : (old now new : Layout) (first from at : ℕ) → IsSplitTo old now first from (at + 1) → at + 1 ≤ from → from < 17
+pub split_more : (old now new : Layout) (first from at : ℕ) → IsSplitTo old now first from (at + 1) → at + 1 ≤ from → from < span_orders
     → new ≡ record now { free = set now.free at ((first + 2 ^ at) ∷ free_at now at); allocated = map.insert now.allocated first at } → Divides new → IsCoalesced new → IsSplitTo old new first from at
 split_more old now new first from at h below within e divided coalesced =
     let orders = h.divided.orders in
@@ -125,7 +126,7 @@ coalesced_none old first order allocated may =
 pub allocated_of_coalesced : (old now : Layout) (first order at to : ℕ) → IsCoalescedTo old now first order at to → IsAllocated now at to
 allocated_of_coalesced old now first order at to h = ap (λ m. map.get m at) h.allocated ∙ get_inserted (map.remove old.allocated first) at to at refl
 
-pub coalesced_more : (old now new : Layout) (first order at to whole : ℕ) → IsCoalescedTo old now first order at to → Divides now → to < 16 → IsFree now (buddy at to) to → whole ≡ span_start at (to + 1)
+pub coalesced_more : (old now new : Layout) (first order at to whole : ℕ) → IsCoalescedTo old now first order at to → Divides now → to < greatest_order → IsFree now (buddy at to) to → whole ≡ span_start at (to + 1)
     → new ≡ record now { free = set now.free to (delete (buddy at to) (free_at now to)); allocated = map.insert (map.remove now.allocated at) whole (to + 1) } → map.get now.allocated (buddy at to) ≡ None
     → IsCoalescedTo old new first order whole (to + 1)
 coalesced_more old now new first order at to whole h divided small held start e none_buddy =

@@ -7,6 +7,7 @@ use Rattle.std.specs.FinMap as map
 use Rattle.index_lists.specs.Lists.{Lists, list_at, with_list}
 use Rattle.common_lemmas.proofs.Orders.{lt_or_ge, trichotomy}
 use Rattle.common_lemmas.specs.Lists.{times, delete}
+use Rattle.layout.specs.Sizes.{greatest_order, span_orders}
 use Rattle.span_lists.specs.declared.spans.PageState.{PageState}
 use Rattle.span_lists.specs.declared.spans.PageState.TheVariants.{Inside, Free, Allocated}
 use Rattle.span_lists.specs.Buddies.{buddy}
@@ -25,8 +26,8 @@ abbrev pub layout_of : ℕ → List PageState → Lists → Layout
 layout_of pages states lists = record { pages = pages; free = lists.lists; allocated = allocated_of states }
 
 -- only an order has a list
-order_of_free : (pages : ℕ) (states : List PageState) (lists : Lists) (free p k : ℕ) → IsConsistent pages states lists free → IsFree (layout_of pages states lists) p k → k < 17
-order_of_free pages states lists free p k h held = elim (lt_or_ge k 17) [
+order_of_free : (pages : ℕ) (states : List PageState) (lists : Lists) (free p k : ℕ) → IsConsistent pages states lists free → IsFree (layout_of pages states lists) p k → k < span_orders
+order_of_free pages states lists free p k h held = elim (lt_or_ge k span_orders) [
   | inl l ↦ l
   | inr g ↦ absurd (let o = h.orders in let none : times p (list_at lists k) ≡ 0 = ap (times p) (get_or_past lists.lists k [] (omega arith)) in omega (arith, none, held))
 ]
@@ -41,7 +42,7 @@ order_at_span : (pages : ℕ) (states : List PageState) (lists : Lists) (free p 
 order_at_span pages states lists free p k h (inl held) = ap order_of (state_of_free pages states lists free p k h held)
 order_at_span pages states lists free p k h (inr allocated) = ap order_of (state_allocated pages states lists p k allocated)
 
-pub is_free_of : (pages : ℕ) (states : List PageState) (lists : Lists) (free p k : ℕ) → IsConsistent pages states lists free → k < 17 → state_at states p ≡ Free k → IsFree (layout_of pages states lists) p k
+pub is_free_of : (pages : ℕ) (states : List PageState) (lists : Lists) (free p k : ℕ) → IsConsistent pages states lists free → k < span_orders → state_at states p ≡ Free k → IsFree (layout_of pages states lists) p k
 is_free_of pages states lists free p k h small e = (let t = h.listed k p small ∙ ap (mark k) e ∙ mark_same k in omega (arith, t))
 
 is_allocated_of : (pages : ℕ) (states : List PageState) (lists : Lists) (p k : ℕ) → state_at states p ≡ Allocated k → IsAllocated (layout_of pages states lists) p k
@@ -56,7 +57,7 @@ mark_le_one k (Free j) = at_most (eqb j k)
     at_most false = omega arith
 mark_le_one k (Allocated j) = omega arith
 
-span_of_order : (pages : ℕ) (states : List PageState) (lists : Lists) (free p k : ℕ) (v : PageState) → IsConsistent pages states lists free → k < 17 → state_at states p ≡ v → order_of v ≡ Some k → IsSpan (layout_of pages states lists) p k
+span_of_order : (pages : ℕ) (states : List PageState) (lists : Lists) (free p k : ℕ) (v : PageState) → IsConsistent pages states lists free → k < span_orders → state_at states p ≡ v → order_of v ≡ Some k → IsSpan (layout_of pages states lists) p k
 span_of_order pages states lists free p k Inside h small e o = absurd (let clash : None ≡ Some k = o in cc)
 span_of_order pages states lists free p k (Free j) h small e o = inl (is_free_of pages states lists free p k h small (e ∙ (let s : Some j ≡ Some k = o in let i : j ≡ k = cc in ap (λ z. Free z) i)))
 span_of_order pages states lists free p k (Allocated j) h small e o = inr (is_allocated_of pages states lists p k (e ∙ (let s : Some j ≡ Some k = o in let i : j ≡ k = cc in ap (λ z. Allocated z) i)))
@@ -160,7 +161,7 @@ split pages states lists lists' free x k u s h allocated ue e view =
     none_allocated (Allocated j) q = absurd (let clash : Some j ≡ None = q in cc)
 
 -- an allocated span has an order, and its first page is one of the pages and in no list
-pub allocated_within : (pages : ℕ) (states : List PageState) (lists : Lists) (free p k : ℕ) → IsConsistent pages states lists free → IsAllocated (layout_of pages states lists) p k → (k < 17) × (p < pages)
+pub allocated_within : (pages : ℕ) (states : List PageState) (lists : Lists) (free p k : ℕ) → IsConsistent pages states lists free → IsAllocated (layout_of pages states lists) p k → (k < span_orders) × (p < pages)
 allocated_within pages states lists free p k h allocated =
     let a = h.cut.spans p k (ap order_of (state_allocated pages states lists p k allocated)) in
     let w = a.within in let o = a.order in let pos = pow_pos k in
@@ -202,7 +203,7 @@ pub record PairCoalesced (pages : ℕ) (states : List PageState) (lists : Lists)
   pub view : layout_of pages (set (set states upper Inside) lower (Allocated (k + 1))) lists
       ≡ record s { allocated = map.insert (map.remove (map.remove s.allocated x) (buddy x k)) lower (k + 1) }
 
-pub pair_coalesced : {pages : ℕ} {states : List PageState} {lists : Lists} {free x k other lower upper : ℕ} {s : Layout} → IsConsistent pages states lists free → k < 16
+pub pair_coalesced : {pages : ℕ} {states : List PageState} {lists : Lists} {free x k other lower upper : ℕ} {s : Layout} → IsConsistent pages states lists free → k < greatest_order
     → IsAllocated s x k → IsAllocated s (buddy x k) k → other ≡ buddy x k → lower ≡ min x other → upper ≡ max x other → layout_of pages states lists ≡ s
     → PairCoalesced pages states lists free x k lower upper s
 pair_coalesced {pages} {states} {lists} {free} {x} {k} {other} {lower} {upper} {s} h small seen_x seen_b oe le ue view =

@@ -5,6 +5,7 @@ use Rattle.std.proofs.lemmas.Bool.{cases_eq}
 use Rattle.common_lemmas.proofs.Orders.{lt_or_ge}
 use Rattle.common_lemmas.proofs.Orders.{lt_or_ge}
 use Rattle.common_lemmas.specs.Lists.{times}
+use Rattle.layout.specs.Sizes.{greatest_order}
 use Rattle.span_lists.specs.Buddies.{buddy}
 use Rattle.span_lists.specs.Layout.{Layout, free_at, IsFree, IsAllocated, Divides, IsCoalesced, HasNone, IsGreatest, IsBlocked}
 use Rattle.common_lemmas.proofs.Powers.{pow_twice, coarser, ends_aligned, nested, aligned_step}
@@ -20,7 +21,7 @@ LiesAllocated s x = (p : ℕ) × (k : ℕ) × IsAllocated s p k × (p ≤ x) × 
 abbrev LiesWhole : Layout → ℕ → ℕ → Type 0
 LiesWhole s b k = (q : ℕ) × (j : ℕ) × IsFree s q j × (k ≤ j) × (q ≤ b) × (b + 2 ^ k ≤ q + 2 ^ j)
 
-pub free_whole : (s : Layout) → Divides s → IsCoalesced s → (k b : ℕ) → k ≤ 16 → b % 2 ^ k ≡ 0 → ((x : ℕ) → b ≤ x → x < b + 2 ^ k → LiesFree s x) → LiesWhole s b k
+pub free_whole : (s : Layout) → Divides s → IsCoalesced s → (k b : ℕ) → k ≤ greatest_order → b % 2 ^ k ≡ 0 → ((x : ℕ) → b ≤ x → x < b + 2 ^ k → LiesFree s x) → LiesWhole s b k
 free_whole s divided coalesced zero b small aligned lies =
     let one : 2 ^ 0 ≡ 1 = refl in
     let at = lies b (omega arith) (omega (arith, one)) in
@@ -87,7 +88,7 @@ none_of : (s : Layout) (p k : ℕ) → free_at s k ≡ [] → ¬ IsFree s p k
 none_of s p k e h = (let none : times p (free_at s k) ≡ 0 = ap (times p) e in let held : 1 ≤ times p (free_at s k) = h in absurd (omega arith))
 
 -- where no free span has the order or a greater one, each run of its length has a page of an allocated span
-pub blocked : (s : Layout) (order : ℕ) → Divides s → IsCoalesced s → order ≤ 16 → HasNone s order → IsBlocked s order
+pub blocked : (s : Layout) (order : ℕ) → Divides s → IsCoalesced s → order ≤ greatest_order → HasNone s order → IsBlocked s order
 blocked s order divided coalesced small none b aligned within =
     elim (search_run s divided b (2 ^ order) within) [
       | inr allocated ↦ (allocated.0, allocated.3.0, allocated.3.1, allocated.1, allocated.2, allocated.3.2, allocated.3.3, allocated.3.4)

@@ -5,6 +5,7 @@ use Rattle.std.specs.FinMap as map
 use Rattle.std.specs.Coded.{Coded, code_by, coded×, coded_ℕ, coded_list}
 use Rattle.common_lemmas.specs.Lists.{times, delete}
 use Rattle.layout.specs.Extents.{Blocks}
+use Rattle.layout.specs.Sizes.{greatest_order, span_orders}
 use Rattle.span_lists.specs.Buddies.{buddy}
 
 -- free: the first pages of the free spans of each order, the span put there last in front. allocated: the order of each span that is allocated, by its first page
@@ -40,18 +41,18 @@ pages_at allocated first = option_map (λ order. 2 ^ order) (map.get allocated f
 
 -- the free spans and the allocated ones divide the pages among them: each page lies in exactly one
 pub record Divides (s : Layout) : Type 0 where
-  pub orders : length s.free ≡ 17
-  pub spans : (p k : ℕ) → IsSpan s p k → (k ≤ 16) × (p % 2 ^ k ≡ 0) × (p + 2 ^ k ≤ s.pages)
+  pub orders : length s.free ≡ span_orders
+  pub spans : (p k : ℕ) → IsSpan s p k → (k ≤ greatest_order) × (p % 2 ^ k ≡ 0) × (p + 2 ^ k ≤ s.pages)
   pub covered : (x : ℕ) → x < s.pages → (p : ℕ) × (k : ℕ) × IsSpan s p k × (p ≤ x) × (x < p + 2 ^ k)
   pub apart : (p q j k : ℕ) → IsSpan s p j → IsSpan s q k → p < q → p + 2 ^ j ≤ q
   pub one : (p j k : ℕ) → IsSpan s p j → IsSpan s p k → j ≡ k
   pub either : (p k : ℕ) → IsFree s p k → map.get s.allocated p ≡ None
-  pub once : (p k : ℕ) → k < 17 → times p (free_at s k) ≤ 1
+  pub once : (p k : ℕ) → k < span_orders → times p (free_at s k) ≤ 1
   pub blocks : Blocks s.pages (pages_at s.allocated)
 
 -- coalescing is complete: no two buddies of one order below the greatest are both free
 abbrev pub IsCoalesced : Layout → Type 0
-IsCoalesced s = (first order : ℕ) → order < 16 → IsFree s first order → ¬ IsFree s (buddy first order) order
+IsCoalesced s = (first order : ℕ) → order < greatest_order → IsFree s first order → ¬ IsFree s (buddy first order) order
 
 -- the pages of the spans in lists, of which the first has the order
 abbrev pub pages_from : ℕ → List (List ℕ) → ℕ
@@ -68,13 +69,13 @@ allocated_pages s = sum_by (λ order. 2 ^ order) (map.values s.allocated)
 
 -- no free span has the order or a greater one
 abbrev pub HasNone : Layout → ℕ → Type 0
-HasNone s order = (k : ℕ) → order ≤ k → k < 17 → free_at s k ≡ []
+HasNone s order = (k : ℕ) → order ≤ k → k < span_orders → free_at s k ≡ []
 
 -- a span of the order was cut from the first list that had one of it or above: the upper halves are on their lists, and no other list changed
 pub record TakesFrom (old new : Layout) (order first : ℕ) : Type 0 where
   pub from : ℕ
   pub from_order : order ≤ from
-  pub from_within : from < 17
+  pub from_within : from < span_orders
   pub none_below : (k : ℕ) → order ≤ k → k < from → free_at old k ≡ []
   pub in_front : slice_get (free_at old from) 0 ≡ Some first
   pub source : free_at new from ≡ delete first (free_at old from)
@@ -90,7 +91,7 @@ span_start page order = page / 2 ^ order * 2 ^ order
 pub record CoalescesInto (old new : Layout) (first order : ℕ) : Type 0 where
   pub to : ℕ
   pub to_order : order ≤ to
-  pub to_within : to < 17
+  pub to_within : to < span_orders
   pub coalesced : (k : ℕ) → order ≤ k → k < to → IsFree old (buddy (span_start first k) k) k
   pub buddies : (k : ℕ) → order ≤ k → k < to → free_at new k ≡ delete (buddy (span_start first k) k) (free_at old k)
   pub in_front : free_at new to ≡ span_start first to ∷ free_at old to
@@ -100,19 +101,19 @@ pub record CoalescesInto (old new : Layout) (first order : ℕ) : Type 0 where
 -- the first list that has a span of the order or above, and the span in front of it
 pub record IsFirstOf (s : Layout) (order first from : ℕ) : Type 0 where
   pub from_order : order ≤ from
-  pub from_within : from < 17
+  pub from_within : from < span_orders
   pub none_below : (k : ℕ) → order ≤ k → k < from → free_at s k ≡ []
   pub in_front : slice_get (free_at s from) 0 ≡ Some first
 
 -- a span of the order is free, and none of a greater one
 pub record IsLargest (s : Layout) (order : ℕ) : Type 0 where
-  pub within : order < 17
+  pub within : order < span_orders
   pub some : free_at s order ≢ []
   pub none_above : HasNone s (order + 1)
 
 -- no longer span that is aligned begins there and fits
 abbrev pub IsGreatest : ℕ → ℕ → ℕ → Type 0
-IsGreatest pages first order = (k : ℕ) → order < k → k ≤ 16 → first % 2 ^ k ≡ 0 → ¬ (first + 2 ^ k ≤ pages)
+IsGreatest pages first order = (k : ℕ) → order < k → k ≤ greatest_order → first % 2 ^ k ≡ 0 → ¬ (first + 2 ^ k ≤ pages)
 
 -- each aligned run of the order's length has a page of an allocated span
 abbrev pub IsBlocked : Layout → ℕ → Type 0

@@ -4,7 +4,7 @@
 //! A span of order k has 2^k pages and begins at a multiple of its length. The free spans of each order stand in a
 //! list. A request takes the span that was put last on the first list that has one of its order or above, and the
 //! span is split until it has the order. A span that is given back is coalesced with its buddy while that is free as a
-//! whole with the same length. Orders are 0 to 16.
+//! whole with the same length. Orders are 0 to 19.
 //!
 //! # Choices
 //! - A new table begins with the greatest aligned spans that fit, one for each binary digit of the number of pages, so no page

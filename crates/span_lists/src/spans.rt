@@ -3,6 +3,7 @@ ghost use Rattle.std.specs.Prelude.{◌≡◌, ℕ, ◌+◌, ◌-◌, ◌%◌, �
 ghost use Rattle.std.specs.Prelude.{slice_set, IfOk, IfSome, IfNone, IsNone, IsTrue, Some, None, min};
 ghost use Rattle.std.specs.FinMap as map;
 ghost use Rattle.common_lemmas.specs.Lists.{delete};
+ghost use Rattle.layout.specs.Sizes.{greatest_order, span_orders, segment_pages, fewest_pages, most_pages};
 ghost use Rattle.span_lists.specs.Buddies.{buddy};
 ghost use Rattle.span_lists.specs.Layout.{
   Layout,
@@ -26,11 +27,9 @@ ghost use Rattle.span_lists.specs.inside.Pages.{allocated_order_of, state_at, Is
 ghost use Rattle.span_lists.specs.inside.Steps.{IsSplitTo, IsCoalescedTo};
 
 use index_lists::{IndexLists, LazyTable};
+use layout::GREATEST_ORDER;
 use std::alloc::{AllocError, Global};
 use std::marker::Model;
-
-/// A span of this order has 65,536 pages.
-const GREATEST_ORDER: u8 = 16;
 
 /// What begins at a page.
 #[derive(Clone, Copy, Debug, PartialEq, Eq)]
@@ -66,9 +65,9 @@ impl Model for Spans {
 impl Spans {
     /// The pages, cut into the greatest aligned spans that fit, from page 0 on. All of them are free.
     pub fn new(alloc: Global, pages: u32) -> Result<Spans, AllocError>
-        requires whole { pages % 32 ≡ 0 }
-        requires least { 1280 ≤ pages }
-        requires most { pages ≤ 65536 }
+        requires whole { pages % segment_pages ≡ 0 }
+        requires least { fewest_pages ≤ pages }
+        requires most { pages ≤ most_pages }
 
         // All pages are free, in the greatest spans that fit.
         ensures pages { IfOk result (λ spans. spans.pages ≡ pages) }
@@ -100,7 +99,7 @@ impl Spans {
 
     /// Allocates a span of the order, and answers its first page.
     pub fn take(&mut self, order: u8) -> Option<u32>
-        requires { order ≤ 16 }
+        requires { order ≤ greatest_order }
 
         // None exactly where no span of the order or a greater one is free, and then nothing changed.
         ensures none { IsNone result ↔ HasNone self.old order }
@@ -161,14 +160,14 @@ impl Spans {
         ensures value { result ≡ free_pages self.now }
         ensures rest { result + allocated_pages self.now ≡ self.now.pages }
         ensures most { result ≤ self.now.pages }
-        ensures blocked { (order : ℕ) → order ≤ 16 → HasNone self.now order → IsBlocked self.now order }
+        ensures blocked { (order : ℕ) → order ≤ greatest_order → HasNone self.now order → IsBlocked self.now order }
     {
         self.free
     }
 
     /// Allocates a free span as it is.
     fn allocate(&mut self, first: u32, order: u8)
-        requires order { order < 17 }
+        requires order { order < span_orders }
         requires free { IsFree self.old first order }
         ensures moves { self.new ≡ record self.old {
           free = slice_set self.old.free order (delete first (free_at self.old order));
@@ -185,9 +184,9 @@ impl Spans {
 
     /// Makes an allocated span free, where its buddy is not.
     fn release(&mut self, first: u32, order: u8)
-        requires order { order < 17 }
+        requires order { order < span_orders }
         requires allocated { IsAllocated self.old first order }
-        requires alone { order < 16 → ¬ IsFree self.old (buddy first order) order }
+        requires alone { order < greatest_order → ¬ IsFree self.old (buddy first order) order }
         ensures moves { self.new ≡ record self.old {
           free = slice_set self.old.free order (first ∷ free_at self.old order);
           allocated = map.remove self.old.allocated first;
@@ -219,7 +218,7 @@ impl Spans {
 
     /// Coalesces two allocated buddies, and answers their first page.
     fn coalesce_pair(&mut self, first: u32, order: u8) -> u32
-        requires order { order < 16 }
+        requires order { order < greatest_order }
         requires allocated { IsAllocated self.old first order }
         requires buddy { IsAllocated self.old (buddy first order) order }
         ensures first { result ≡ span_start first (order + 1) }
@@ -239,7 +238,7 @@ impl Spans {
 
     /// Coalesces an allocated span with its buddy, which is free.
     fn coalesce_once(&mut self, first: u32, order: u8) -> u32
-        requires order { order < 16 }
+        requires order { order < greatest_order }
         requires allocated { IsAllocated self.old first order }
         requires buddy { IsFree self.old (buddy first order) order }
 
@@ -261,7 +260,7 @@ impl Spans {
 
     /// Whether a span has a free buddy to be coalesced with.
     fn can_coalesce(&self, first: u32, order: u8) -> bool
-        ensures can { IsTrue result ↔ ((order < 16) × IsFree self.now (buddy first order) order) }
+        ensures can { IsTrue result ↔ ((order < greatest_order) × IsFree self.now (buddy first order) order) }
         ensures divided { Divides self.now }
     {
         let pages = self.pages;
@@ -274,7 +273,7 @@ impl Spans {
 
     /// The span that a request for the order is cut from, and its order.
     fn find(&self, order: u8) -> Option<(u32, u8)>
-        requires { order ≤ 16 }
+        requires { order ≤ greatest_order }
         ensures none { IfNone result (HasNone self.now order) }
         ensures blocked { IfNone result (IsBlocked self.now order) }
         ensures found { IfSome result (λ span. IsFirstOf self.now order span.0 span.1) }
@@ -292,7 +291,7 @@ impl Spans {
     /// Splits an allocated span until it has the order.
     fn split_down(&mut self, first: u32, from: u8, order: u8)
         requires order { order ≤ from }
-        requires from { from < 17 }
+        requires from { from < span_orders }
         requires allocated { IsAllocated self.old first from }
         requires divided { Divides self.old }
         requires coalesced { IsCoalesced self.old }
@@ -309,7 +308,7 @@ impl Spans {
     fn coalesce(&mut self, first: u32, order: u8) -> (u32, u8)
         requires { IsAllocated self.old first order }
         ensures coalesces { IsCoalescedTo self.old self.new first order result.0 result.1 }
-        ensures alone { result.1 < 16 → ¬ IsFree self.new (buddy result.0 result.1) result.1 }
+        ensures alone { result.1 < greatest_order → ¬ IsFree self.new (buddy result.0 result.1) result.1 }
         ensures divided { Divides self.new }
     {
         let mut at = first;
@@ -323,15 +322,15 @@ impl Spans {
 }
 
 fn span_pages(order: u8) -> u32
-    requires { order < 17 }
+    requires { order < span_orders }
     ensures value { result ≡ 2 ^ order }
-    ensures bound { result ≤ 65536 }
+    ensures bound { result ≤ most_pages }
 {
     1 << order
 }
 
 fn buddy_of(first: u32, order: u8) -> u32
-    requires { order < 17 }
+    requires { order < span_orders }
     ensures { result ≡ buddy first order }
 {
     first ^ span_pages(order)
@@ -341,8 +340,8 @@ fn buddy_of(first: u32, order: u8) -> u32
 ///
 /// Each has as many pages as one of the binary digits of their number stands for, the highest first.
 fn cut(states: &mut LazyTable<PageState>, lists: &mut IndexLists, pages: u32)
-    requires most { pages ≤ 65536 }
-    requires none { IsBegun pages 0 17 states.old.entries lists.old }
+    requires most { pages ≤ most_pages }
+    requires none { IsBegun pages 0 span_orders states.old.entries lists.old }
     ensures consistent { IsConsistent pages states.new.entries lists.new pages }
     ensures none_allocated { (page : ℕ) → allocated_order_of (state_at states.new.entries page) ≡ None }
 {

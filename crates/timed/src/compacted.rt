@@ -9,7 +9,7 @@ mod places;
 mod segments;
 
 use filled::{erase_some, fill, key_of};
-use layout::{GREATEST_VALUE, MOST_PAGES, SEGMENT, SEGMENT_PAGES};
+use layout::{GREATEST_VALUE, MOST_RUN_PAGES, SEGMENT, SEGMENT_PAGES};
 use places::{count_moved, note_places};
 use row_bytes::row_size;
 use segments::{compact_all, new_cache};
@@ -29,7 +29,7 @@ pub fn run(
     compacts: bool,
     compared: u32,
 ) -> Result<String, AllocError> {
-    let segments = segments.max(3).min(MOST_PAGES / SEGMENT_PAGES);
+    let segments = segments.max(3).min(MOST_RUN_PAGES / SEGMENT_PAGES);
     let value = Vec::from_elem(alloc, 7u8, (bytes as usize).min(GREATEST_VALUE))?;
     let in_segment = SEGMENT.checked_div(row_size(key_of(0).as_slice(), value.as_slice()));
     let rows = (segments - 2)

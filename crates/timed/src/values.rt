@@ -10,7 +10,7 @@ mod store;
 
 use copies::{read_all, write_all};
 use fragments::GREATEST_VALUE;
-use layout::{MOST_PAGES, SEGMENT_PAGES};
+use layout::{MOST_RUN_PAGES, SEGMENT_PAGES};
 use std::alloc::{AllocError, Global};
 use store::Store;
 
@@ -29,7 +29,7 @@ pub fn run(
 ) -> Result<String, AllocError> {
     let bytes = (bytes as usize).min(GREATEST_VALUE);
     let names = names.max(1).min(MOST_NAMES);
-    let segments = segments.max(3).min(MOST_PAGES / SEGMENT_PAGES);
+    let segments = segments.max(3).min(MOST_RUN_PAGES / SEGMENT_PAGES);
 
     let mut buffer = Vec::from_elem(alloc, 7u8, bytes)?;
     let mut store = Store::new(alloc, names, segments)?;

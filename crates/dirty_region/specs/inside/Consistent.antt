@@ -11,7 +11,7 @@ use Rattle.dirty_region.specs.Queues.{IsOut}
 use Rattle.dirty_region.specs.inside.Rings.{RingState, IsRingOf, puts_in}
 use Rattle.dirty_region.specs.inside.Indexed.{IsIndexOf}
 
--- the region has at most 2,048 segments, one group and no guard, and where two segments are held one is free
+-- the region has at most as many segments as a shard can, one group and no guard, and where two segments are held one is free
 pub record HasSpare (r : RegionState) : Type 0 where
   pub most : (shape r).most ≤ most_segments
   pub one : group_count r ≡ 1

@@ -4,6 +4,7 @@ use Rattle.std.specs.Ordering.{nat_cmp}
 use Rattle.std.specs.FinMap as map
 use Rattle.index_lists.specs.Lists.{Lists}
 use Rattle.common_lemmas.specs.Lists.{times}
+use Rattle.layout.specs.Sizes.{most_pages, greatest_order, span_orders}
 use Rattle.span_lists.specs.Buddies.{buddy}
 use Rattle.span_lists.specs.Layout.{pages_from}
 use Rattle.span_lists.specs.declared.spans.PageState.{PageState}
@@ -47,7 +48,7 @@ allocated_of states = map.from_entries (allocated_entries 0 states)
 
 -- a span of the order begins at the page, and none within it
 pub record IsSpanAt (pages : ℕ) (at : ℕ → Option ℕ) (x k : ℕ) : Type 0 where
-  pub order : k ≤ 16
+  pub order : k ≤ greatest_order
   pub aligned : x % 2 ^ k ≡ 0
   pub within : x + 2 ^ k ≤ pages
   pub alone : (i : ℕ) → x < i → i < x + 2 ^ k → at i ≡ None
@@ -59,13 +60,13 @@ pub record IsCut (pages : ℕ) (at : ℕ → Option ℕ) : Type 0 where
 
 -- the states of the pages, the lists of the free spans and the count of the free pages go together
 pub record IsConsistent (pages : ℕ) (states : List PageState) (lists : Lists) (free : ℕ) : Type 0 where
-  pub small : pages ≤ 65536
+  pub small : pages ≤ most_pages
   pub states_len : length states ≡ pages
   pub indices : lists.indices ≡ pages
-  pub orders : length lists.lists ≡ 17
+  pub orders : length lists.lists ≡ span_orders
   pub cut : IsCut pages (λ x. order_of (state_at states x))
-  pub listed : (k x : ℕ) → k < 17 → times x (slice_index_or lists.lists k []) ≡ mark k (state_at states x)
-  pub coalesced : (x k : ℕ) → k < 16 → state_at states x ≡ Free k → state_at states (buddy x k) ≢ Free k
+  pub listed : (k x : ℕ) → k < span_orders → times x (slice_index_or lists.lists k []) ≡ mark k (state_at states x)
+  pub coalesced : (x k : ℕ) → k < greatest_order → state_at states x ≡ Free k → state_at states (buddy x k) ≢ Free k
   pub count : free ≡ pages_from 0 lists.lists
   pub total : free + sum_by allocated_pages_of states ≡ pages
 
@@ -73,11 +74,11 @@ pub record IsConsistent (pages : ℕ) (states : List PageState) (lists : Lists) 
 pub record IsBegun (pages first least : ℕ) (states : List PageState) (lists : Lists) : Type 0 where
   pub states_len : length states ≡ pages
   pub indices : lists.indices ≡ pages
-  pub orders : length lists.lists ≡ 17
+  pub orders : length lists.lists ≡ span_orders
   pub cut : IsCut first (λ x. order_of (state_at states x))
   pub beyond : (x : ℕ) → first ≤ x → state_at states x ≡ Inside
   pub least_order : (x k : ℕ) → state_at states x ≡ Free k → least ≤ k
   pub one : (x y k : ℕ) → state_at states x ≡ Free k → state_at states y ≡ Free k → x ≡ y
   pub none_allocated : (x : ℕ) → allocated_order_of (state_at states x) ≡ None
-  pub listed : (k x : ℕ) → k < 17 → times x (slice_index_or lists.lists k []) ≡ mark k (state_at states x)
+  pub listed : (k x : ℕ) → k < span_orders → times x (slice_index_or lists.lists k []) ≡ mark k (state_at states x)
   pub count : first ≡ pages_from 0 lists.lists

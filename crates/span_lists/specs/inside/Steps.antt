@@ -2,6 +2,7 @@
 use Rattle.std.specs.Prelude.{◌≡◌, ℕ, ◌+◌, ◌%◌, ◌<◌, ◌≤◌, ◌^◌, ◌∷◌, None}
 use Rattle.std.specs.FinMap as map
 use Rattle.common_lemmas.specs.Lists.{delete}
+use Rattle.layout.specs.Sizes.{greatest_order, span_orders}
 use Rattle.span_lists.specs.Buddies.{buddy}
 use Rattle.span_lists.specs.Layout.{Layout, free_at, IsFree, Divides, IsCoalesced, span_start}
 
@@ -19,7 +20,7 @@ pub record IsSplitTo (old now : Layout) (first from at : ℕ) : Type 0 where
 pub record IsCoalescedTo (old now : Layout) (first order at to : ℕ) : Type 0 where
   pub pages : now.pages ≡ old.pages
   pub to_order : order ≤ to
-  pub to_within : to < 17
+  pub to_within : to < span_orders
   pub start : at ≡ span_start first to
   pub allocated : now.allocated ≡ map.insert (map.remove old.allocated first) at to
   pub none : map.get (map.remove old.allocated first) at ≡ None
@@ -30,4 +31,4 @@ pub record IsCoalescedTo (old now : Layout) (first order at to : ℕ) : Type 0 w
 
 -- a span of the order may begin at the page
 abbrev pub MayBegin : ℕ → ℕ → Type 0
-MayBegin first order = (order ≤ 16) × (first % 2 ^ order ≡ 0)
+MayBegin first order = (order ≤ greatest_order) × (first % 2 ^ order ≡ 0)

@@ -7,7 +7,7 @@ use super::arena::Arena;
 use crate::rounds::{RowKeys, row_at};
 use index_tree::IndexTree;
 use key_index::Keys;
-use layout::{KEY_ROOM, MOST_KEYS, MOST_SEGMENTS, SEGMENT, SEGMENT_PAGES};
+use layout::{KEY_ROOM, MOST_KEYS, MOST_RUN_PAGES, SEGMENT, SEGMENT_PAGES};
 use raw_range::{Piece, Range};
 use std::alloc::{AllocError, Global};
 
@@ -22,6 +22,9 @@ fn piece(alloc: Global, owner: u32) -> Result<Piece, AllocError>
     Ok(range.take(0, SEGMENT))
 }
 
+/// The segments of an index, as many as the program's words can ask for.
+const SEGMENTS: u32 = MOST_RUN_PAGES / SEGMENT_PAGES;
+
 /// An index with all of its segments.
 #[derive(Drop)]
 pub struct Tree {
@@ -31,10 +34,10 @@ pub struct Tree {
 }
 
 impl Tree {
-    /// A tree without keys, with the most segments: 387,254 keys have room.
+    /// A tree without keys, with so many segments: 387,254 keys have room.
     pub fn open(alloc: Global) -> Result<Tree, AllocError> {
-        let mut tree = IndexTree::new(alloc, MOST_SEGMENTS)?;
-        for number in 0..MOST_SEGMENTS {
+        let mut tree = IndexTree::new(alloc, SEGMENTS)?;
+        for number in 0..SEGMENTS {
             tree.add_segment(piece(alloc, number)?);
         }
         Ok(Tree { tree })

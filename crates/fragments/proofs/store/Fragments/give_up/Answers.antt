@@ -2,6 +2,7 @@ use Rattle.std.proofs.Common.{◌≡◌, ℕ, ◌+◌, ◌-◌, ◌≤◌, List,
 use Rattle.std.specs.Prelude.{IfSome, IsNone, IsSome}
 use Rattle.std.proofs.lemmas.Bool.Decides.{leb_tells}
 use Rattle.std.proofs.lemmas.List.{length-map, length-replicate, length-take}
+use Rattle.layout.specs.Sizes.{most_segments}
 use Rattle.regions.specs.Segments.{RegionState, all_emptied, ended, fresh, segment_at, with_segment}
 use Rattle.regions.specs.Shapes.{IsGreatestHeld, free_count, group_count, held_count, shape}
 use Rattle.regions.specs.Counts.{live_total}
@@ -35,7 +36,7 @@ free_given r same = elim (leb_tells (held_count r) 0) [
   | inr some ↦ (let z = some.1 in inl (omega (arith, z, same)))
 ]
 
-given_up : (t u : TableState) (r s : RegionState) (lengths : List ℕ) (segments now : ℕ) (o : Option Lent) → AreEntries t → length lengths ≡ t.names → group_count r ≡ 1 → (shape r).most ≤ 2048 → segments ≡ held_count r
+given_up : (t u : TableState) (r s : RegionState) (lengths : List ℕ) (segments now : ℕ) (o : Option Lent) → AreEntries t → length lengths ≡ t.names → group_count r ≡ 1 → (shape r).most ≤ most_segments → segments ≡ held_count r
     → u ≡ record t { firsts = replicate (t.names + 1) None; chains = replicate (t.names + 1) [] } → ((p : Place) → standing_at s p ≡ None)
     → (IsNone o → s ≡ all_emptied r) → IfSome o (λ piece. (n : ℕ) × IsGreatestHeld r n × (segment_at (all_emptied r) n ≡ Some (fresh piece)) × (s ≡ with_segment (all_emptied r) n None)) → (IsNone o → held_count r ≡ 0) → (IsSome o → held_count s + 1 ≡ held_count r)
     → free_count s ≡ held_count s → live_total s ≡ 0 → now ≡ segments - 1 → (values_in u s ≡ replicate t.names None) × IsConsistent u s lengths now
@@ -44,7 +45,7 @@ given_up t u r s lengths segments now o entries many one few were is objects non
     let nothing : (p : Place) → live_at s p ≡ None = λ p. ap item_if_live (objects p) in
     let e : TableState = record t { firsts = replicate (t.names + 1) None; chains = replicate (t.names + 1) [] } in
     let entries_now : AreEntries e = record { few = entries.few; firsts = length-replicate (t.names + 1) None; chains = length-replicate (t.names + 1) [] } in
-    let groups = groups_given o r s none some ∙ one in let small = subst (λ k. k ≤ 2048) (sym (most_given o r s none some)) few in
+    let groups = groups_given o r s none some ∙ one in let small = subst (λ k. k ≤ most_segments) (sym (most_given o r s none some)) few in
     subst (λ (x : TableState). (values_in x s ≡ replicate t.names None) × IsConsistent x s lengths now) (sym is) (
       empty_values e s lengths now entries_now groups small nothing refl refl many (omega (arith, held, were, now_is)) (free_given s free) total,
       empty_consistent e s lengths now entries_now groups small nothing refl refl many (omega (arith, held, were, now_is)) (free_given s free) total,

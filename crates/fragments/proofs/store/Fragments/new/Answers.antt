@@ -1,5 +1,6 @@
 use Rattle.std.proofs.Common.{◌≡◌, ℕ, ◌+◌, ◌≤◌, List, [], length, replicate, None, inr, inl, sym, ap, subst, ◌∙◌}
 use Rattle.std.proofs.lemmas.List.{length-replicate}
+use Rattle.layout.specs.Sizes.{most_segments}
 use Rattle.regions.specs.Segments.{RegionState, idle}
 use Rattle.regions.specs.Shapes.{group_count, held_count, shape}
 use Rattle.regions.specs.Counts.{live_total}
@@ -16,7 +17,7 @@ new_region segments = record { most = segments; groups = replicate 1 idle; segme
 abbrev new_tables : ℕ → TableState
 new_tables names = record { names = names; grows = 0; firsts = replicate (names + 1) None; chains = replicate (names + 1) [] }
 
-fresh : (t : TableState) (r : RegionState) (lengths : List ℕ) (names segments : ℕ) → t ≡ new_tables names → r ≡ new_region segments → lengths ≡ replicate names 0 → AreEntries t → segments ≤ 2048
+fresh : (t : TableState) (r : RegionState) (lengths : List ℕ) (names segments : ℕ) → t ≡ new_tables names → r ≡ new_region segments → lengths ≡ replicate names 0 → AreEntries t → segments ≤ most_segments
     → (values_in t r ≡ replicate names None) × IsConsistent t r lengths 0
 fresh t r lengths names segments is there zeros entries few =
     let nothing : (p : Place) → live_at r p ≡ None = λ p. ap (λ (x : RegionState). live_at x p) there ∙ ap (λ o. item_if_live (standing_in o p.at)) (no_segment segments p.segment) in
@@ -25,7 +26,7 @@ fresh t r lengths names segments is there zeros entries few =
     let chains : t.chains ≡ replicate (t.names + 1) [] = ap (λ (x : TableState). x.chains) is ∙ ap (λ k. replicate (k + 1) []) (sym n_is) in
     let many : length lengths ≡ t.names = ap (λ (l : List ℕ). length l) zeros ∙ (length-replicate names 0 ∙ sym n_is) in
     let held : held_count r ≡ 0 = ap held_count there ∙ none_held segments in
-    let small = subst (λ k. k ≤ 2048) (sym (ap (λ (x : RegionState). (shape x).most) there)) few in
+    let small = subst (λ k. k ≤ most_segments) (sym (ap (λ (x : RegionState). (shape x).most) there)) few in
     let total : live_total r ≡ 0 = ap live_total there ∙ none_live segments in (
       empty_values t r lengths 0 entries (ap group_count there) small nothing firsts chains many (sym held) (inr (inl held)) total ∙ ap (λ k. replicate k None) n_is,
       empty_consistent t r lengths 0 entries (ap group_count there) small nothing firsts chains many (sym held) (inr (inl held)) total,

@@ -1,15 +1,16 @@
-use Rattle.std.proofs.Common.{◌≡◌, ◌≤◌, All, length, Some, sym, subst}
+use Rattle.std.proofs.Common.{◌≡◌, ◌*◌, ◌≤◌, All, length, Some, sym, subst}
 use Rattle.regions.specs.Shapes.{group_count, held_count}
 use Rattle.regions.specs.Contents.{Item, live_at}
 use Rattle.regions.specs.declared.place.Place.{Place}
 use Rattle.tree_nodes.specs.Nodes.{IsEntry}
 use Rattle.index_tree.specs.Indexes.{Index, IsIndex}
 use Rattle.layout.specs.Kinds.{node_kind}
+use Rattle.layout.specs.Sizes.{segment_pages, most_run_pages}
 use Rattle.index_tree.specs.Sizes.{most}
-use Rattle.index_tree.specs.Limits.{most_levels, most_spares}
+use Rattle.index_tree.specs.Limits.{most_levels, most_run_levels, most_spares}
 use Rattle.index_tree.specs.Store.{AreNodes, IndexState, index_in, levels, nodes_of}
 use Rattle.index_tree.proofs.Entries.{entries_stand}
-use Rattle.index_tree.proofs.States.{low_enough}
+use Rattle.index_tree.proofs.States.{low_enough, low_enough_in_run}
 use Rattle.index_tree.proofs.tree.IndexTree.facts.Goals as goal
 
 pub returns-clause-nodes : goal.returns-clause-nodes
@@ -42,6 +43,12 @@ pub returns-clause-levels : goal.returns-clause-levels
 returns-clause-levels c =
     let f = c.self.inside in
     subst (λ (s : IndexState). levels s.tree ≤ most_levels) c.self.view_is (low_enough f.roots f.region f.keys f.segments c.self.invariant)
+
+pub returns-clause-run_levels : goal.returns-clause-run_levels
+returns-clause-run_levels c =
+    let f = c.self.inside in
+    subst (λ (s : IndexState). segment_pages * held_count s.region ≤ most_run_pages → levels s.tree ≤ most_run_levels) c.self.view_is
+    (λ held. low_enough_in_run f.roots f.region f.keys f.segments c.self.invariant held)
 
 pub returns-clause-one : goal.returns-clause-one
 returns-clause-one c = subst (λ (s : IndexState). group_count s.region ≡ 1) c.self.view_is c.self.invariant.one

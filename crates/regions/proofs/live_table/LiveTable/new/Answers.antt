@@ -2,14 +2,15 @@ use Rattle.std.proofs.Common.{[], ◌∷◌, ◌++◌, ◌≡◌, ℕ, ◌≤◌
 use Rattle.std.specs.List.{count_by}
 use Rattle.std.proofs.lemmas.List.{length-replicate}
 use Rattle.std.proofs.lemmas.List.Folds.{sum_by-replicate}
+use Rattle.layout.specs.Sizes.{most_segments}
 use Rattle.regions.specs.inside.Consistent.{not_closed, is_sparse}
 use Rattle.std.proofs.lemmas.Result.{IfOk-from_err}
 use Rattle.regions.proofs.Regions.{replicate-more}
 use Rattle.regions.proofs.live_table.LiveTable.new.Goals as goal
 
-none-sparse : (most : ℕ) → most ≤ 2048 → (length (replicate most not_closed) ≤ 2048) × (0 ≡ count_by is_sparse (replicate most not_closed))
+none-sparse : (most : ℕ) → most ≤ most_segments → (length (replicate most not_closed) ≤ most_segments) × (0 ≡ count_by is_sparse (replicate most not_closed))
 none-sparse most few = (
-  subst (λ n. n ≤ 2048) (sym (length-replicate most not_closed)) few,
+  subst (λ n. n ≤ most_segments) (sym (length-replicate most not_closed)) few,
   sym (sum_by-replicate (λ (v : ℕ). cond (is_sparse v) 1 0) most not_closed ∙ omega arith),
 )
 
@@ -20,7 +21,7 @@ pub invariant_of-result : goal.invariant_of-result
 invariant_of-result c =
     let ends = c.loop-number.auto._number-end in
     let full : c.loop-number._number ≡ c.args.most = omega (arith, c.loop-number-test.false, ends) in
-    subst (λ l. (length l ≤ 2048) × (0 ≡ count_by is_sparse l)) (sym (all c.loop-number._number c.args.most _ c.loop-number.invariant full)) (none-sparse c.args.most c.requires)
+    subst (λ l. (length l ≤ most_segments) × (0 ≡ count_by is_sparse l)) (sym (all c.loop-number._number c.args.most _ c.loop-number.invariant full)) (none-sparse c.args.most c.requires)
 
 pub returns-in_err-bytes : goal.returns-in_err-bytes
 returns-in_err-bytes c = IfOk-from_err c.from_residual.result _ c.from_residual.ensures.0

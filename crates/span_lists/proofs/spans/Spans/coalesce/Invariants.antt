@@ -1,4 +1,5 @@
 use Rattle.std.proofs.Common.{◌≡◌, ◌⊎◌, ◌-◌}
+use Rattle.layout.specs.Sizes.{greatest_order}
 use Rattle.span_lists.specs.Layout.{IsAllocated}
 use Rattle.span_lists.specs.inside.Steps.{IsCoalescedTo, MayBegin}
 use Rattle.span_lists.proofs.spans.Spans.coalesce.Given as goal
@@ -11,4 +12,4 @@ invariant-loop-self l = record {
 }
 
 abbrev pub decreases-loop-self : goal.decreases-loop-self
-decreases-loop-self l = 16 - l.to
+decreases-loop-self l = greatest_order - l.to

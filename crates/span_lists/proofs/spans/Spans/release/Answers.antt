@@ -1,5 +1,6 @@
 use Rattle.std.proofs.Common.{◌≢◌, ◌<◌, sym, subst, ap, ◌∙◌, arith}
 use Rattle.index_lists.specs.Table.{Table}
+use Rattle.layout.specs.Sizes.{greatest_order}
 use Rattle.span_lists.specs.declared.spans.PageState.{PageState}
 use Rattle.span_lists.specs.Buddies.{buddy}
 use Rattle.span_lists.specs.Layout.{IsFree, IsAllocated}
@@ -37,7 +38,7 @@ pub overflow_add-self : goal.overflow_add-self
 overflow_add-self c =
     let allocated = subst (λ s. IsAllocated s c.args.first c.args.order) (sym c.self.view_is) c.requires.allocated in
     let was = state_allocated c.self.inside.pages c.self.inside.states.entries c.self.inside.lists c.args.first c.args.order allocated in
-    let alone : c.args.order < 16 → state_at c.self.inside.states.entries (buddy c.args.first c.args.order) ≢ Free
+    let alone : c.args.order < greatest_order → state_at c.self.inside.states.entries (buddy c.args.first c.args.order) ≢ Free
     c.args.order = (λ h e. c.requires.alone h (subst (λ s. IsFree s (buddy c.args.first c.args.order) c.args.order) c.self.view_is (is_free_of c.self.inside.pages c.self.inside.states.entries c.self.inside.lists c.self.inside.free _ _ c.self.invariant c.requires.order e))) in
     let after = consistent_release c.self.inside.pages c.self.inside.states.entries c.self.inside.lists c.self.inside.free c.args.first c.args.order c.self.invariant c.requires.order was alone in
     let bound = after.0 in let small = c.self.invariant.small in let len = c.span_pages.ensures.value in
@@ -47,7 +48,7 @@ pub invariant_of-self : goal.invariant_of-self
 invariant_of-self c =
     let allocated = subst (λ s. IsAllocated s c.args.first c.args.order) (sym c.self.view_is) c.requires.allocated in
     let was = state_allocated c.self.inside.pages c.self.inside.states.entries c.self.inside.lists c.args.first c.args.order allocated in
-    let alone : c.args.order < 16 → state_at c.self.inside.states.entries (buddy c.args.first c.args.order) ≢ Free
+    let alone : c.args.order < greatest_order → state_at c.self.inside.states.entries (buddy c.args.first c.args.order) ≢ Free
     c.args.order = (λ h e. c.requires.alone h (subst (λ s. IsFree s (buddy c.args.first c.args.order) c.args.order) c.self.view_is (is_free_of c.self.inside.pages c.self.inside.states.entries c.self.inside.lists c.self.inside.free _ _ c.self.invariant c.requires.order e))) in
     let after = consistent_release c.self.inside.pages c.self.inside.states.entries c.self.inside.lists c.self.inside.free c.args.first c.args.order c.self.invariant c.requires.order was alone in
     rw ((ap (λ (t : Table PageState). t.entries) c.set.ensures), c.push_front.ensures, c.span_pages.ensures.value) after.1
