@@ -1,14 +1,15 @@
 #!/usr/bin/env python3
 """Writes the figures of docs/SPEED.md: the program's, where its time goes, and its parts'.
 
-    bench/speed.py [ROUNDS]
+    bench/speed.py [program] [parts]        both where none is named
 
-It runs `compare.py --write` with ROUNDS rounds (default 5) and `profile.py --write`, and then times each part beside its peer, by
-the scripts that do so, and puts a line for each into docs/SPEED.md, between the marks that stand there. It needs g++, cargo and
-`perf`, and takes half an hour, in which no other work should be on the machine.
+`program` runs `compare.py --write` and `profile.py --write`. `parts` times each part beside its peer, by the scripts that do so, and
+puts a line for each into docs/SPEED.md, between the marks that stand there. It needs g++, cargo and `perf`, and takes a quarter of an
+hour, in which no other work should be on the machine.
 """
 import os
 import subprocess
+import sys
 
 import blocks
 import compaction
@@ -19,7 +20,7 @@ import remote
 import stores
 import table
 import turn
-from timing import BENCH, LARGE_PAGES, nanoseconds, numbers, program, put_between
+from timing import BENCH, LARGE_PAGES, machine, nanoseconds, program, put_between
 
 MARKS = ("<!-- written by bench/speed.py -->\n", "<!-- so far -->\n")
 HEAD = "| What | Script | Figures | Peer | Aims | Met |"
@@ -98,10 +99,15 @@ def lines_of_opening():
 
 
 def main():
-    rounds, = numbers(__doc__, 5)
-    for words in (["compare.py", "-r", str(rounds), "--write"], ["profile.py", "--write"]):
-        subprocess.run([f"{BENCH}/{words[0]}", *words[1:]], check=True)
-    lines = [HEAD, "|---" * (HEAD.count("|") - 1) + "|"]
+    words = sys.argv[1:] or ["program", "parts"]
+    if not {*words} <= {"program", "parts"}:
+        sys.exit(__doc__)
+    if "program" in words:
+        for script in ("compare.py", "profile.py"):
+            subprocess.run([f"{BENCH}/{script}", "--write"], check=True)
+    if "parts" not in words:
+        return
+    lines = [machine(), "", HEAD, "|---" * (HEAD.count("|") - 1) + "|"]
     for part in (lines_of_turns, lines_of_memory, lines_of_keys, lines_of_stores, lines_of_opening):
         # (each script sets what its own runs want)
         os.environ["GLIBC_TUNABLES"] = LARGE_PAGES if part in (lines_of_stores, lines_of_opening) else ""

@@ -64,6 +64,8 @@ enum sc_code {
 #define SC_MOST_PAGES 524288u       /* 2 GiB */
 #define SC_MOST_KEYS 32u            /* that one scan writes */
 #define SC_KEY_ROOM 258u            /* the room for each of them, with its length */
+#define SC_ROW_ROOM 12264u          /* the most bytes of a row that a scan writes */
+#define SC_WAITING 1024u            /* how many new rows may wait for their places in the order of keys, where nothing else is asked */
 
 /* A row's live bytes. */
 #define SC_LIVE(key_len, value_len) ((40 + (uint64_t)(key_len) + (value_len) + 7) / 8 * 8)
@@ -79,6 +81,9 @@ typedef struct sc_opening {
     uint32_t rows;   /* for how many rows there is room: 1 to 4,294,967,294 */
     uint32_t groups; /* of segments: 1, or 8, where the rows of each table stand in segments of their own; 0 stands for 1 */
     uint64_t bound;  /* rows go while more bytes are live; 0 stands for SC_MOST_LIVE */
+    /* The most new rows that may wait for their places in the order of keys: a put that finds more brings one of them in, so that no
+     * scan has to sort more than so many. 0 stands for SC_WAITING. UINT32_MAX where nothing is scanned, which spares puts the work. */
+    uint32_t waiting;
 } sc_opening;
 
 /* The memory of the caller's for the tags of the rows that go. */
@@ -90,6 +95,21 @@ typedef struct sc_evicted {
 
 /* What a scan wrote. */
 typedef struct sc_scanned { uint32_t keys, bytes; } sc_scanned;
+
+/* What a scan with values wrote. */
+typedef struct sc_scanned_rows {
+    uint32_t rows, bytes;
+    uint32_t wanted; /* how many bytes the next row takes, where there was no room for it; else 0 */
+} sc_scanned_rows;
+
+/* A row that a scan wrote, where it stands. */
+typedef struct sc_found_row {
+    const uint8_t *key;
+    size_t key_len;
+    const uint8_t *value;
+    size_t value_len;
+    uint32_t tag;
+} sc_found_row;
 
 typedef struct sc_stats {
     uint64_t live_bytes; /* of all rows together */
@@ -104,7 +124,7 @@ typedef struct sc_stats {
 } sc_stats;
 
 /* What the library exports. Call the functions below, which test for null and for a table that is none. */
-uint32_t shardcache_open(sc_cache *, uint32_t pages, uint32_t rows, uint32_t groups, uint64_t bound);
+uint32_t shardcache_open(sc_cache *, uint32_t pages, uint32_t rows, uint32_t groups, uint64_t bound, uint32_t waiting);
 uint32_t shardcache_put(sc_cache *, uint8_t table, const uint8_t *key, size_t, const uint8_t *value, size_t, uint32_t tag,
                         uint32_t *evicted, size_t, uint64_t *went, bool *replaced);
 uint32_t shardcache_put_pieces(sc_cache *, uint8_t table, const uint8_t *key, size_t, const uint8_t *first, size_t,
@@ -115,6 +135,8 @@ uint32_t shardcache_get(sc_cache *, uint8_t table, const uint8_t *key, size_t, c
 uint32_t shardcache_peek(sc_cache *, uint8_t table, const uint8_t *key, size_t, const uint8_t **at, size_t *len, uint32_t *tag);
 uint32_t shardcache_read(sc_cache *, uint8_t table, const uint8_t *key, size_t, uint8_t *into, size_t, size_t *len, uint32_t *tag);
 uint32_t shardcache_scan(sc_cache *, uint8_t table, const uint8_t *from, size_t, uint32_t count, uint8_t *into, size_t, sc_scanned *);
+uint32_t shardcache_scan_rows(sc_cache *, uint8_t table, const uint8_t *from, size_t, uint32_t count, uint8_t *into, size_t,
+                              sc_scanned_rows *);
 uint32_t shardcache_guard(sc_cache *, uint8_t table);
 uint32_t shardcache_unguard(sc_cache *, uint8_t table);
 uint32_t shardcache_compact(sc_cache *);
@@ -143,7 +165,7 @@ static inline const char *sc_name(int code) {
  * more is left taken than a closed handle keeps: sc_close says what. */
 static inline int sc_open(sc_cache *cache, const sc_opening *with) {
     if (!cache || !with) return SC_NULL;
-    return (int)shardcache_open(cache, with->pages, with->rows, with->groups ? with->groups : 1, with->bound);
+    return (int)shardcache_open(cache, with->pages, with->rows, with->groups ? with->groups : 1, with->bound, with->waiting);
 }
 
 /* Stores a row in front of the others; no other row has its key in the table afterwards. One row goes where there is no place for
@@ -225,8 +247,8 @@ static inline int sc_read(sc_cache *cache, uint32_t table, const void *key, size
 
 /* Writes the first `count` keys of a table at or above `from`, in the order of their bytes, each behind its length in two bytes, low
  * byte first. `room` is SC_KEY_ROOM for each key or more. No row counts as used. The least key above another is that key with a zero
- * byte behind it: so a scan goes on from the last key with a zero byte, whatever was stored and erased meanwhile. The first scan behind
- * many puts takes longer: it brings the new keys into their order. */
+ * byte behind it: so a scan goes on from the last key with a zero byte, whatever was stored and erased meanwhile. A scan behind many puts
+ * takes longer, since it brings the new keys into their order: `waiting` of sc_opening says how many. */
 static inline int sc_scan(sc_cache *cache, uint32_t table, const void *from, size_t from_len, uint32_t count, void *into, size_t room,
                           sc_scanned *did) {
     if (!cache || (!from && from_len) || !into || !did) return SC_NULL;
@@ -238,6 +260,30 @@ static inline int sc_scan(sc_cache *cache, uint32_t table, const void *from, siz
 static inline const uint8_t *sc_key(const uint8_t *at, size_t *len) {
     *len = (size_t)at[0] | (size_t)at[1] << 8;
     return at + 2;
+}
+
+/* Writes the first rows of a table at or above `from`, in the order of the bytes of their keys: at most `count`, 1 to SC_MOST_KEYS, and no
+ * more than fit into `room` bytes whole. Each is its key behind its length in two bytes, its tag in four, the length of its value in two,
+ * and its value, low bytes first. Where there was no room for the next row, `wanted` is how many bytes it takes, SC_ROW_ROOM at most; where
+ * it is 0, `count` rows were written or there are no more. No row counts as used. It goes on as sc_scan does: `from` may have one byte more
+ * than a key can have. */
+static inline int sc_scan_rows(sc_cache *cache, uint32_t table, const void *from, size_t from_len, uint32_t count, void *into, size_t room,
+                               sc_scanned_rows *did) {
+    static uint8_t nowhere[1];
+    if (!cache || (!from && from_len) || (!into && room) || !did) return SC_NULL;
+    if (table >= SC_TABLES) return SC_BAD_TABLE;
+    return (int)shardcache_scan_rows(cache, (uint8_t)table, sc_bytes_(from), from_len, count, into ? (uint8_t *)into : nowhere, room, did);
+}
+
+/* Reads a row that such a scan wrote, and answers where the next one stands: the first stands at what the scan wrote into. Read no more
+ * than `rows` of them, and none once the bytes are written over. */
+static inline const uint8_t *sc_row(const uint8_t *at, sc_found_row *row) {
+    at = sc_key(at, &row->key_len);
+    row->key = at;
+    at += row->key_len;
+    row->tag = (uint32_t)at[0] | (uint32_t)at[1] << 8 | (uint32_t)at[2] << 16 | (uint32_t)at[3] << 24;
+    row->value = sc_key(at + 4, &row->value_len);
+    return row->value + row->value_len;
 }
 
 /* Tells what a cache has, and what was done to it. */

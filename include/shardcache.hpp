@@ -133,6 +133,7 @@ struct Opening {
     std::uint32_t rows;
     std::uint32_t groups = 1;
     std::uint64_t bound = 0;
+    std::uint32_t waiting = 0;
 };
 
 // A cache, or a closed one. It is opened, used and closed on one thread.
@@ -149,7 +150,7 @@ class Cache {
     ~Cache() { sc_close(&cache_); }
 
     [[nodiscard]] Code open(const Opening &with) noexcept {
-        sc_opening opening{with.pages, with.rows, with.groups, with.bound};
+        sc_opening opening{with.pages, with.rows, with.groups, with.bound, with.waiting};
         return Code{sc_open(&cache_, &opening)};
     }
     [[nodiscard]] Code close() noexcept { return Code{sc_close(&cache_)}; }
@@ -184,6 +185,12 @@ class Cache {
     }
     Code erase(Key key) noexcept { return Code{sc_erase(&cache_, key.table, key.bytes.data(), key.bytes.size())}; }
 
+    // Writes rows of a table in the order of the bytes of their keys, from a key on, as many as fit: `Rows` goes along them.
+    Code scan_rows(Key from, std::uint32_t count, std::span<std::byte> into, sc_scanned_rows &did) noexcept {
+        return Code{
+            sc_scan_rows(&cache_, from.table, from.bytes.data(), from.bytes.size(), count, into.data(), into.size(), &did)};
+    }
+
     Code guard(std::uint32_t table = 0) noexcept { return Code{sc_guard(&cache_, table)}; }
     Code unguard(std::uint32_t table = 0) noexcept { return Code{sc_unguard(&cache_, table)}; }
     Code compact() noexcept { return Code{sc_compact(&cache_)}; }
@@ -209,6 +216,7 @@ class Cache {
 
   private:
     friend class Keys;
+    friend class Rows;
     static sc_cache closed() noexcept { return SC_CACHE_INIT; }
     template <class Look> std::optional<Found> look(Look by, const Key &key, Code *code) noexcept {
         const std::uint8_t *at = nullptr;
@@ -223,16 +231,32 @@ class Cache {
     sc_cache cache_ = SC_CACHE_INIT;
 };
 
+// Where a scan goes on: at a key, or at the least key above one, which is that key with a zero byte behind it.
+class Cursor {
+  public:
+    Cursor() noexcept = default;
+    explicit Cursor(Bytes from) noexcept : len_(std::min(from.size(), from_.size())) { std::copy_n(from.data(), len_, from_.begin()); }
+
+    void go_on_behind(const std::uint8_t *key, std::size_t len) noexcept {
+        std::memcpy(from_.data(), key, len);
+        from_[len] = std::byte{0};
+        len_ = len + 1;
+    }
+    const std::byte *data() const noexcept { return from_.data(); }
+    std::size_t size() const noexcept { return len_; }
+
+  private:
+    std::array<std::byte, SC_MOST_KEY + 1> from_;
+    std::size_t len_ = 0;
+};
+
 // Goes along the keys of a table in the order of their bytes, at most SC_MOST_KEYS a call of the cache. It stays valid whatever is
 // stored and erased meanwhile: it goes on behind the last key.
 class Keys {
   public:
     explicit Keys(std::uint32_t table = 0) noexcept : table_(table) {}
     // From the first key on that is `from` or above it.
-    Keys(Bytes from, std::uint32_t table) noexcept : table_(table) {
-        from_len_ = std::min(from.size(), from_.size());
-        std::copy_n(from.data(), from_len_, from_.begin());
-    }
+    Keys(Bytes from, std::uint32_t table) noexcept : table_(table), from_(from) {}
 
     // The next key, until the next call. None behind the last one, or where the scan is refused: `code` tells which, and is `Missing`
     // behind the last.
@@ -243,29 +267,67 @@ class Keys {
         std::size_t len = 0;
         const std::uint8_t *key = sc_key(at_, &len);
         at_ = key + len;
-        if (--left_ == 0) go_on_behind(key, len);
+        if (--left_ == 0) from_.go_on_behind(key, len);
         return std::string_view(reinterpret_cast<const char *>(key), len);
     }
 
   private:
     Code fill(Cache &cache) noexcept {
         sc_scanned did{};
-        Code code{sc_scan(&cache.cache_, table_, from_.data(), from_len_, SC_MOST_KEYS, keys_.data(), keys_.size(), &did)};
+        Code code{sc_scan(&cache.cache_, table_, from_.data(), from_.size(), SC_MOST_KEYS, keys_.data(), keys_.size(), &did)};
         at_ = keys_.data();
         left_ = did.keys;
         return code == Code::Done && left_ == 0 ? Code::Missing : code;
     }
-    // The least key above a key is that key with a zero byte behind it.
-    void go_on_behind(const std::uint8_t *key, std::size_t len) noexcept {
-        std::memcpy(from_.data(), key, len);
-        from_[len] = std::byte{0};
-        from_len_ = len + 1;
-    }
 
     std::uint32_t table_;
-    std::array<std::byte, SC_MOST_KEY + 1> from_;
-    std::size_t from_len_ = 0;
+    Cursor from_;
     std::array<std::uint8_t, SC_MOST_KEYS * SC_KEY_ROOM> keys_;
+    const std::uint8_t *at_ = nullptr;
+    std::uint32_t left_ = 0;
+};
+
+// A row that a scan wrote, which stands there until the next scan.
+struct Row {
+    std::string_view key;
+    std::span<const std::byte> value;
+    std::uint32_t tag;
+
+    std::string_view text() const noexcept { return shardcache::text(value); }
+};
+
+// Goes along the rows of a table as `Keys` goes along keys. They are written into memory of the caller's, which outlives this: as many a
+// call of the cache as there is room for. With SC_ROW_ROOM bytes there is room for any.
+class Rows {
+  public:
+    explicit Rows(std::span<std::byte> room, std::uint32_t table = 0) noexcept : room_(room), table_(table) {}
+    Rows(std::span<std::byte> room, Bytes from, std::uint32_t table) noexcept : room_(room), table_(table), from_(from) {}
+
+    // The next row, until the next call. None behind the last one, or where the scan is refused: `code` tells which, and is `Missing`
+    // behind the last, and `Short` where there is no room for the next.
+    std::optional<Row> next(Cache &cache, Code *code = nullptr) noexcept {
+        Code answer = left_ ? Code::Done : fill(cache);
+        if (code) *code = answer;
+        if (answer != Code::Done) return std::nullopt;
+        sc_found_row row;
+        at_ = sc_row(at_, &row);
+        if (--left_ == 0) from_.go_on_behind(row.key, row.key_len);
+        return Row{{reinterpret_cast<const char *>(row.key), row.key_len}, std::as_bytes(std::span(row.value, row.value_len)), row.tag};
+    }
+
+  private:
+    Code fill(Cache &cache) noexcept {
+        sc_scanned_rows did{};
+        Code code{sc_scan_rows(&cache.cache_, table_, from_.data(), from_.size(), SC_MOST_KEYS, room_.data(), room_.size(), &did)};
+        at_ = reinterpret_cast<const std::uint8_t *>(room_.data());
+        left_ = code == Code::Done ? did.rows : 0;
+        if (code != Code::Done || left_) return code;
+        return did.wanted ? Code::Short : Code::Missing;
+    }
+
+    std::span<std::byte> room_;
+    std::uint32_t table_;
+    Cursor from_;
     const std::uint8_t *at_ = nullptr;
     std::uint32_t left_ = 0;
 };

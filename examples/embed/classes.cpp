@@ -88,10 +88,31 @@ static int keys_in_order() {
     return 0;
 }
 
+static int rows_in_order() {
+    Cache cache;
+    EXPECT(cache.open({.pages = SC_FEWEST_PAGES, .rows = 1000, .waiting = 10}) == Code::Done);
+    for (std::uint32_t i = 0; i < 100; i++) EXPECT(cache.put({"key " + std::to_string(100 + i), 2}, std::string(i, 'x'), i));
+    std::array<std::byte, 200> room;
+    Rows rows{room, "key 150", 2};
+    Code code{};
+    std::uint32_t found = 50;
+    while (auto row = rows.next(cache, &code)) {
+        EXPECT(row->key == "key " + std::to_string(100 + found) && row->text() == std::string(found, 'x') && row->tag == found);
+        found++;
+    }
+    EXPECT(found == 100 && code == Code::Missing && cache.stats()->gets == 0);
+    EXPECT(cache.put({"key 2", 2}, std::string(200, 'x')) && !rows.next(cache, &code) && code == Code::Short);
+    sc_scanned_rows did{};
+    EXPECT(cache.scan_rows({"key 2", 2}, 32, room, did) == Code::Done && did.rows == 0 && did.wanted == 213);
+    EXPECT(cache.erase({"key 2", 2}) == Code::Done && !rows.next(cache, &code) && code == Code::Missing);
+    return 0;
+}
+
 int main() {
     TRY(rows_of_a_cache());
     TRY(a_guard());
     TRY(rows_that_go());
     TRY(keys_in_order());
+    TRY(rows_in_order());
     std::puts("classes: each call did what it says");
 }

@@ -8,6 +8,7 @@
 static const sc_opening small = {.pages = SC_FEWEST_PAGES, .rows = 1000};
 static uint8_t big[SC_MOST_VALUE + 1];
 static uint8_t keys[SC_MOST_KEYS * SC_KEY_ROOM];
+static uint8_t found_rows[2 * SC_ROW_ROOM];
 
 static int openings(sc_cache *c) {
     sc_opening with = small;
@@ -31,7 +32,7 @@ static int openings(sc_cache *c) {
     with = small;
     with.bound = SC_MOST_LIVE(SC_FEWEST_PAGES, 1) + 1;
     EXPECT(sc_open(c, &with) == SC_BAD_BOUND && sc_close(c) == SC_CLOSED);
-    with = (sc_opening){SC_FEWEST_GROUP_PAGES, 1, 8, SC_MOST_LIVE(SC_FEWEST_GROUP_PAGES, 8)};
+    with = (sc_opening){SC_FEWEST_GROUP_PAGES, 1, 8, SC_MOST_LIVE(SC_FEWEST_GROUP_PAGES, 8), UINT32_MAX};
     EXPECT(sc_open(c, &with) == SC_DONE && sc_close(c) == SC_DONE);
     EXPECT(sc_open(c, &small) == SC_DONE);
     EXPECT(sc_open(c, &small) == SC_OPEN_ALREADY);
@@ -72,6 +73,7 @@ static int bad_arguments(sc_cache *c) {
     const uint8_t *at = NULL;
     size_t len = 0;
     sc_scanned did = {0, 0};
+    sc_scanned_rows found = {0, 0, 0};
     sc_stats before, after;
     EXPECT(sc_get_stats(c, &before) == SC_DONE);
     EXPECT(sc_put(NULL, 0, "k", 1, "v", 1, 0, NULL, NULL) == SC_NULL && sc_put(c, 0, NULL, 3, "v", 1, 0, NULL, NULL) == SC_NULL);
@@ -91,6 +93,11 @@ static int bad_arguments(sc_cache *c) {
     EXPECT(sc_scan(c, 0, "", 0, SC_MOST_KEYS + 1, keys, sizeof keys, &did) == SC_BAD_COUNT);
     EXPECT(sc_scan(c, 0, "", 0, 32, keys, sizeof keys - 1, &did) == SC_SHORT);
     EXPECT(sc_scan(c, 8, "", 0, 1, keys, sizeof keys, &did) == SC_BAD_TABLE && sc_scan(c, 0, "", 0, 1, NULL, 0, &did) == SC_NULL);
+    EXPECT(sc_scan_rows(c, 0, "", 0, 0, keys, sizeof keys, &found) == SC_BAD_COUNT);
+    EXPECT(sc_scan_rows(c, 0, "", 0, SC_MOST_KEYS + 1, keys, sizeof keys, &found) == SC_BAD_COUNT);
+    EXPECT(sc_scan_rows(c, 8, "", 0, 1, keys, sizeof keys, &found) == SC_BAD_TABLE);
+    EXPECT(sc_scan_rows(NULL, 0, "", 0, 1, keys, sizeof keys, &found) == SC_NULL && sc_scan_rows(c, 0, NULL, 1, 1, keys, 9, &found) == SC_NULL);
+    EXPECT(sc_scan_rows(c, 0, "", 0, 1, NULL, 1, &found) == SC_NULL && sc_scan_rows(c, 0, "", 0, 1, keys, 9, NULL) == SC_NULL);
     EXPECT(sc_guard(c, 8) == SC_BAD_TABLE && sc_unguard(c, 8) == SC_BAD_TABLE && sc_get_stats(c, NULL) == SC_NULL);
     EXPECT(sc_get_stats(c, &after) == SC_DONE && !memcmp(&before, &after, sizeof before));
     EXPECT(sc_put(c, 0, big, SC_MOST_KEY, big, SC_MOST_VALUE, 0, NULL, NULL) == SC_DONE && sc_erase(c, 0, big, SC_MOST_KEY) == SC_DONE);
@@ -112,11 +119,85 @@ static int scans(sc_cache *c) {
     return 0;
 }
 
+static int is_row(const sc_found_row *row, const char *key, const char *value, uint32_t tag) {
+    return row->key_len == strlen(key) && !memcmp(row->key, key, row->key_len) && row->value_len == strlen(value)
+           && !memcmp(row->value, value, row->value_len) && row->tag == tag;
+}
+
+/* Rows with their values: the rows of "empty" and "key" take 13 and 22 bytes. */
+static int scans_with_values(sc_cache *c) {
+    sc_scanned_rows did = {0, 0, 0};
+    sc_found_row row;
+    sc_stats before, after;
+    const uint8_t *next;
+    uint8_t from[SC_MOST_KEY + 1];
+    EXPECT(sc_get_stats(c, &before) == SC_DONE);
+    EXPECT(sc_scan_rows(c, 0, NULL, 0, 3, found_rows, sizeof found_rows, &did) == SC_DONE);
+    EXPECT(did.rows == 2 && did.bytes == 35 && did.wanted == 0);
+    EXPECT(!memcmp(found_rows, "\5\0empty\3\0\0\0\0\0\3\0key\2\0\0\0\13\0other VAlue", 35));
+    next = sc_row(found_rows, &row);
+    EXPECT(is_row(&row, "empty", "", 3));
+    next = sc_row(next, &row);
+    EXPECT(is_row(&row, "key", "other VAlue", 2) && next == found_rows + 35);
+    found_rows[34] = 99;
+    EXPECT(sc_scan_rows(c, 0, "", 0, 3, found_rows, 34, &did) == SC_DONE && did.rows == 1 && did.bytes == 13 && did.wanted == 22);
+    EXPECT(found_rows[34] == 99); /* the second is not there in part */
+    EXPECT(sc_scan_rows(c, 0, "", 0, 3, NULL, 0, &did) == SC_DONE && did.rows == 0 && did.bytes == 0 && did.wanted == 13);
+    EXPECT(sc_scan_rows(c, 0, "", 0, 1, found_rows, 13, &did) == SC_DONE && did.rows == 1 && did.bytes == 13 && did.wanted == 0);
+    EXPECT(sc_scan_rows(c, 0, "empty", 6, 3, found_rows, 22, &did) == SC_DONE && did.rows == 1 && did.bytes == 22);
+    EXPECT(sc_row(found_rows, &row) == found_rows + 22 && is_row(&row, "key", "other VAlue", 2));
+    EXPECT(sc_scan_rows(c, 3, NULL, 0, 3, found_rows, 22, &did) == SC_DONE && did.rows == 0 && did.bytes == 0 && did.wanted == 0);
+    EXPECT(sc_get_stats(c, &after) == SC_DONE && !memcmp(&before, &after, sizeof before)); /* no row was used */
+    memset(big, 'z', sizeof big);
+    EXPECT(sc_put(c, 0, big, SC_MOST_KEY, big, SC_MOST_VALUE, 4, NULL, NULL) == SC_DONE);
+    EXPECT(sc_scan_rows(c, 0, "z", 1, 3, found_rows, SC_ROW_ROOM - 1, &did) == SC_DONE && did.rows == 0 && did.wanted == SC_ROW_ROOM);
+    EXPECT(sc_scan_rows(c, 0, "z", 1, 3, found_rows, SC_ROW_ROOM, &did) == SC_DONE && did.rows == 1 && did.bytes == SC_ROW_ROOM);
+    sc_row(found_rows, &row);
+    EXPECT(row.key_len == SC_MOST_KEY && row.value_len == SC_MOST_VALUE && row.tag == 4);
+    memcpy(from, row.key, SC_MOST_KEY); /* on from the last key, with a zero byte behind it */
+    from[SC_MOST_KEY] = 0;
+    EXPECT(sc_scan_rows(c, 0, from, sizeof from, 3, found_rows, sizeof found_rows, &did) == SC_DONE && did.rows == 0 && did.wanted == 0);
+    EXPECT(sc_erase(c, 0, big, SC_MOST_KEY) == SC_DONE);
+    memset(big, 0, sizeof big);
+    return 0;
+}
+
+/* Whatever number of new rows may wait for their places, a scan finds each. */
+static int waiting_rows(void) {
+    static const uint32_t waiting[] = {0, 1, SC_WAITING, UINT32_MAX};
+    sc_cache c = SC_CACHE_INIT;
+    for (size_t one = 0; one < sizeof waiting / sizeof waiting[0]; one++) {
+        sc_opening with = small;
+        sc_scanned did;
+        with.rows = 5000;
+        with.waiting = waiting[one];
+        EXPECT(sc_open(&c, &with) == SC_DONE);
+        for (uint32_t i = 0; i < 5000; i++) {
+            uint8_t key[4] = {(uint8_t)(i * 7919 >> 8), (uint8_t)(i * 7919), (uint8_t)(i >> 8), (uint8_t)i};
+            EXPECT(sc_put(&c, 0, key, 4, NULL, 0, i, NULL, NULL) == SC_DONE);
+        }
+        uint8_t from[5] = {0};
+        uint32_t found = 0;
+        do {
+            EXPECT(sc_scan(&c, 0, from, found ? 5 : 0, SC_MOST_KEYS, keys, sizeof keys, &did) == SC_DONE);
+            EXPECT(did.bytes == 6 * did.keys);
+            for (uint32_t i = 0; i < did.keys; i++) {
+                EXPECT(!found || memcmp(from, keys + 6 * i + 2, 4) < 0); /* they rise */
+                memcpy(from, keys + 6 * i + 2, 4);
+                found++;
+            }
+        } while (did.keys == SC_MOST_KEYS);
+        EXPECT(found == 5000 && sc_close(&c) == SC_DONE);
+    }
+    return 0;
+}
+
 /* Under a guard a row is read where it stands, and nothing moves it. */
 static int guards(sc_cache *c) {
     const uint8_t *at = NULL, *again = NULL;
     size_t len = 0;
     sc_scanned did;
+    sc_scanned_rows rows_did;
     sc_stats stats;
     EXPECT(sc_unguard(c, 0) == SC_UNGUARDED);
     EXPECT(sc_guard(c, 0) == SC_DONE && sc_guard(c, 0) == SC_DONE);
@@ -125,6 +206,7 @@ static int guards(sc_cache *c) {
     EXPECT(sc_put_pieces(c, 1, "k", 1, "v", 1, "v", 1, 0, NULL, NULL) == SC_GUARDED && sc_patch(c, 0, "key", 3, 0, "", 0) == SC_GUARDED);
     EXPECT(sc_get(c, 0, "key", 3, &again, &len, NULL) == SC_GUARDED && sc_read(c, 0, "key", 3, keys, 20, &len, NULL) == SC_GUARDED);
     EXPECT(sc_scan(c, 0, NULL, 0, 2, keys, sizeof keys, &did) == SC_GUARDED && sc_get_stats(c, &stats) == SC_DONE && stats.is_guarded == 1);
+    EXPECT(sc_scan_rows(c, 0, NULL, 0, 2, keys, sizeof keys, &rows_did) == SC_GUARDED);
     EXPECT(sc_compact(c) == SC_GUARDED && sc_close(c) == SC_GUARDED);
     EXPECT(sc_unguard(c, 0) == SC_DONE && sc_compact(c) == SC_GUARDED);
     EXPECT(sc_peek(c, 0, "key", 3, &again, &len, NULL) == SC_DONE && again == at && !memcmp(at, "other VAlue", 11));
@@ -185,12 +267,14 @@ static int closings(sc_cache *c) {
     size_t len = 0;
     sc_stats stats;
     sc_scanned did;
+    sc_scanned_rows rows_did;
     EXPECT(sc_close(NULL) == SC_NULL && sc_close(c) == SC_DONE && sc_close(c) == SC_CLOSED);
     EXPECT(sc_put(c, 0, "k", 1, "v", 1, 0, NULL, NULL) == SC_CLOSED);
     EXPECT(sc_put_pieces(c, 0, "k", 1, "", 0, "v", 1, 0, NULL, NULL) == SC_CLOSED);
     EXPECT(sc_get(c, 0, "k", 1, &at, &len, NULL) == SC_CLOSED && sc_read(c, 0, "k", 1, keys, 9, &len, NULL) == SC_CLOSED);
     EXPECT(sc_patch(c, 0, "k", 1, 0, "v", 1) == SC_CLOSED && sc_erase(c, 0, "k", 1) == SC_CLOSED);
     EXPECT(sc_scan(c, 0, "", 0, 1, keys, sizeof keys, &did) == SC_CLOSED && sc_get_stats(c, &stats) == SC_CLOSED);
+    EXPECT(sc_scan_rows(c, 0, "", 0, 1, keys, sizeof keys, &rows_did) == SC_CLOSED);
     EXPECT(sc_guard(c, 0) == SC_CLOSED && sc_unguard(c, 0) == SC_CLOSED && sc_compact(c) == SC_CLOSED);
     EXPECT(sc_peek(c, 0, "k", 1, &at, &len, NULL) == SC_CLOSED);
     EXPECT(sc_open(c, &small) == SC_DONE && sc_close(c) == SC_DONE);
@@ -203,9 +287,11 @@ int main(void) {
     TRY(rows(&c));
     TRY(bad_arguments(&c));
     TRY(scans(&c));
+    TRY(scans_with_values(&c));
     TRY(guards(&c));
     TRY(evictions(&c));
     TRY(few_places());
+    TRY(waiting_rows());
     TRY(closings(&c));
     EXPECT(!strcmp(sc_name(SC_MISSING), "missing") && !strcmp(sc_name(99), "unknown"));
     puts("use: each call did what it says");

@@ -75,7 +75,7 @@ using namespace fake;
 
 extern "C" {
 
-uint32_t shardcache_open(sc_cache *handle, uint32_t pages, uint32_t rows, uint32_t groups, uint64_t bound) {
+uint32_t shardcache_open(sc_cache *handle, uint32_t pages, uint32_t rows, uint32_t groups, uint64_t bound, uint32_t) {
     if (handle->state == is_open) return SC_OPEN_ALREADY;
     uint32_t fewest = groups == 1 ? SC_FEWEST_PAGES : SC_FEWEST_GROUP_PAGES;
     if (pages < fewest || pages > SC_MOST_PAGES || pages % SC_SEGMENT_PAGES || (groups != 1 && groups != 8)) return SC_BAD_SIZE;
@@ -202,6 +202,33 @@ uint32_t shardcache_scan(sc_cache *handle, uint8_t table, const uint8_t *from, s
         at[1] = uint8_t(len >> 8);
         memcpy(at + 2, row->first.data() + 1, len);
         did->bytes += uint32_t(2 + len);
+    }
+    return SC_DONE;
+}
+
+uint32_t shardcache_scan_rows(sc_cache *handle, uint8_t table, const uint8_t *from, size_t from_len, uint32_t count, uint8_t *into,
+                              size_t room, sc_scanned_rows *did) {
+    if (uint32_t code = refusal(handle, table)) return code;
+    if (count == 0 || count > SC_MOST_KEYS) return SC_BAD_COUNT;
+    Cache &cache = cache_of(handle);
+    *did = {};
+    for (auto row = cache.rows.lower_bound(std::string_view(key_of(table, from, from_len)));
+         row != cache.rows.end() && row->first[0] == char(table) && did->rows < count; row++, did->rows++) {
+        size_t key_len = row->first.size() - 1, value_len = row->second.value.size(), all = 8 + key_len + value_len;
+        if (all > room - did->bytes) {
+            did->wanted = uint32_t(all);
+            break;
+        }
+        uint8_t *at = into + did->bytes;
+        auto number = [&at](size_t bytes, size_t of) {
+            for (size_t i = 0; i < bytes; i++) *at++ = uint8_t(of >> 8 * i);
+        };
+        number(2, key_len);
+        at = std::copy_n(row->first.data() + 1, key_len, at);
+        number(4, row->second.tag);
+        number(2, value_len);
+        std::copy_n(row->second.value.data(), value_len, at);
+        did->bytes += uint32_t(all);
     }
     return SC_DONE;
 }

@@ -78,7 +78,7 @@ by_test : (b : Bool) (row : Row) (found : Option Row) (rest : Bool) → is_some 
 by_test true row found rest e = refl
 by_test false row found rest e = e
 
-found_has : (key : Key) (rows : List Row) → is_some (row_of key rows) ≡ has key rows
+pub found_has : (key : Key) (rows : List Row) → is_some (row_of key rows) ≡ has key rows
 found_has key [] = refl
 found_has key (row ∷ rows) = by_test (is_of key row) row (row_of key rows) (has key rows) (found_has key rows)
 

@@ -21,6 +21,10 @@ pub record EmbeddedState : Type 0 where
 abbrev pub most_bound : ℕ → ℕ → ℕ
 most_bound pages regions = (pages / segment_pages - regions) * dense
 
+-- how many rows may wait for their places in the order of keys, where nothing else is asked for
+abbrev pub most_waiting : ℕ
+most_waiting = 1024
+
 -- what a cache can be opened with
 pub record CanOpen (opening : Opening) : Type 0 where
   pub pages : ArePages opening.pages

@@ -14,7 +14,9 @@ mod getting;
 mod guarding;
 mod lending;
 mod puts;
+mod scanning;
 
+use crate::key_body::KeyBody;
 use crate::opening::{OpenRefusal, Opening, open_store};
 use crate::patch::Patch;
 use crate::stats::Stats;
@@ -32,6 +34,8 @@ pub struct Cache<'f> {
     limits: Limits,
     // Where the two pieces of a value are put together.
     joined: Vec<u8>,
+    // Where a scan with values has its keys.
+    body: KeyBody,
     evictions: u64,
     gets: u64,
     hits: u64,
@@ -92,14 +96,19 @@ impl<'f> Cache<'f> {
         let Ok(joined) = Vec::with_capacity(alloc, GREATEST_VALUE) else {
             return Err(OpenRefusal { opening, seat });
         };
+        let Ok(body) = KeyBody::new(alloc) else {
+            return Err(OpenRefusal { opening, seat });
+        };
         let store = open_store(alloc, opening, home, seat)?;
         Ok(Cache {
             store,
             limits: Limits {
                 room: opening.rows,
                 bound: opening.bound,
+                waiting: opening.waiting,
             },
             joined,
+            body,
             evictions: 0,
             gets: 0,
             hits: 0,
@@ -206,8 +215,9 @@ impl<'f> Cache<'f> {
         requires unguarded { IsUnguarded self }
         ensures seat { IsAtRest self.entry.store.list result }
     {
-        let (store, joined) = (self.store, self.joined);
+        let (store, joined, body) = (self.store, self.joined, self.body);
         drop(joined);
+        drop(body);
         store.finish()
     }
 }

@@ -58,19 +58,23 @@
 #![tactic(auto)]
 
 mod cache;
+mod key_body;
 mod lending;
 mod lent;
 mod opening;
 mod patch;
 mod put_answer;
+mod scanned_rows;
+mod scanning;
 mod stats;
 mod storing;
 
 pub use cache::Cache;
 pub use foreign_list::{Foreign, ForeignBlock, OwnerSeat};
 pub use lent::Lent;
-pub use opening::{OpenRefusal, Opening, most_bound};
+pub use opening::{MOST_WAITING, OpenRefusal, Opening, most_bound};
 pub use patch::Patch;
 pub use put_answer::PutAnswer;
+pub use scanned_rows::ScannedRows;
 pub use shard_store::{Compacted, Put, Scanned, Share};
 pub use stats::Stats;

@@ -4,7 +4,7 @@ ghost use Rattle.layout.specs.Sizes.{segment_pages};
 ghost use Rattle.foreign_list.specs.OwnerSeats.{IsAtRest};
 ghost use Rattle.shard_memory.specs.Tickets.{tickets_out};
 ghost use Rattle.shard_store.specs.Stores.{IsUnguarded};
-ghost use Rattle.embedded_cache.specs.States.{most_bound, CanOpen};
+ghost use Rattle.embedded_cache.specs.States.{most_bound, most_waiting, CanOpen};
 
 use foreign_list::{Foreign, OwnerSeat};
 use layout::{DENSE, SEGMENT_PAGES};
@@ -12,6 +12,9 @@ use shard_store::ShardStore;
 use std::alloc::Global;
 use std::fmt;
 use thiserror::Error;
+
+/// How many rows may wait for their places in the order of keys, where nothing else is asked for.
+pub const MOST_WAITING: u32 = 1024;
 
 /// What a cache is opened with.
 #[derive(Clone, Copy, Debug, PartialEq, Eq)]
@@ -26,13 +29,23 @@ pub struct Opening {
     pub regions: u32,
     /// Rows go while more bytes than these are live: at most [`most_bound`].
     pub bound: u64,
+    /// The most rows that may wait for their places in the order of keys: a put that finds more brings one of them in, so that no
+    /// scan has to sort more than so many. 4,294,967,295 where nothing is scanned, which spares puts the work.
+    pub waiting: u32,
 }
 
 impl Opening {
-    /// A shard of so many pages, whose tables share the segments, with the greatest bound.
+    /// A shard of so many pages, whose tables share the segments, with the greatest bound; [`MOST_WAITING`] rows may wait.
     pub fn of_pages(shard: u32, pages: u32, rows: u32) -> Opening
         requires { segment_pages ≤ pages }
-        ensures { result ≡ record { shard = shard; pages = pages; rows = rows; regions = 1; bound = most_bound pages 1 } }
+        ensures { result ≡ record {
+          shard = shard;
+          pages = pages;
+          rows = rows;
+          regions = 1;
+          bound = most_bound pages 1;
+          waiting = most_waiting;
+        } }
     {
         Opening {
             shard,
@@ -40,6 +53,7 @@ impl Opening {
             rows,
             regions: 1,
             bound: most_bound(pages, 1),
+            waiting: MOST_WAITING,
         }
     }
 }

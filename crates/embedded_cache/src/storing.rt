@@ -15,15 +15,49 @@ use crate::put_answer::PutAnswer;
 use rows::Evictions;
 use shard_store::{EvictedTags, Put, ShardStore};
 
-// For how many rows there is room, and above how many live bytes rows go.
+// For how many rows there is room, above how many live bytes rows go, and above how many that wait for their places in the order of
+// keys one is brought in.
 #[derive(Clone, Copy)]
 pub(crate) struct Limits {
     pub(crate) room: u32,
     pub(crate) bound: u64,
+    pub(crate) waiting: u32,
 }
 
 // Stores a row, behind the rows that go for it. Their tags are written into the caller's memory, in order, as far as it has places.
-pub(crate) fn put_written(
+// Where more rows than the limit wait for their places in the order of keys, one is brought in first.
+pub(crate) fn put_settled(
+    store: &mut ShardStore<'_>,
+    limits: Limits,
+    table: u8,
+    key: &[u8],
+    value: &[u8],
+    tag: u32,
+    evicted: &mut [u32],
+) -> PutAnswer
+    // A row of any size, with no guard standing.
+    requires table { table < tables }
+    requires key { IsKey key.now }
+    requires value { length value.now ≤ greatest_value }
+    requires unguarded { IsUnguarded store.old }
+    requires limits { (limits.room ≡ store.old.room) × (1 ≤ limits.room) × (limits.room < 2 ^ 32) }
+
+    // What it does, answers and tells.
+    ensures put { WritesPut limits.room (min limits.bound (pressure store.old.pages store.old.lent store.old.regions))
+        (in_table table key.now) (apply.put (in_table table key.now) value.now tag) (reply_of result.put) result.evicted
+        store.old.rows store.new.rows evicted.old evicted.new }
+    ensures low { live store.new.rows ≤ limits.bound + size key.now value.now }
+
+    // Nothing is lent.
+    ensures same { IsSameStore store.old store.new }
+    ensures taken { TakesBack store.old store.new }
+{
+    store.settle_above(limits.waiting);
+    put_written(store, limits, table, key, value, tag, evicted)
+}
+
+// The same, where none is brought in.
+fn put_written(
     store: &mut ShardStore<'_>,
     limits: Limits,
     table: u8,

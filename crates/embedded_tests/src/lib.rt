@@ -13,6 +13,8 @@ mod mailboxes;
 #[cfg(test)]
 mod puts;
 #[cfg(test)]
+mod scans;
+#[cfg(test)]
 mod steps;
 #[cfg(test)]
 mod threads;

@@ -3,7 +3,7 @@ ghost use Rattle.std.specs.Prelude.{◌-◌, ◌^◌, ◌<◌, ◌≤◌};
 ghost use Rattle.embedded_cache.specs.States.{most_bound};
 
 use crate::trial::{SCAN_BYTES, Trial, value_in};
-use embedded_cache::{Foreign, Lent, Patch, Put, PutAnswer};
+use embedded_cache::{Foreign, Lent, Patch, Put, PutAnswer, ScannedRows};
 use std::alloc::{AllocError, Global};
 use std::test::Fail;
 
@@ -34,6 +34,11 @@ pub(crate) enum Step<'a> {
     Erases(&'a [u8], bool),
     // The first keys from one on: at most so many, spelled like this.
     Scans(&'a [u8], u32, &'a [u8]),
+    // The first rows from a key on, into so many bytes: at most so many, how many there are, spelled like this, and how many bytes the
+    // next takes where it does not fit.
+    ScansRows(&'a [u8], u32, usize, u32, &'a [u8], u32),
+    // The same, where only the numbers are looked at: of the rows, of their bytes, and of the bytes of the next.
+    ScansLong(&'a [u8], u32, usize, u32, u32, u32),
     // A block is lent with the value of a key, or with none, and comes home.
     Lends(&'a [u8], Option<&'a [u8]>),
     // How many rows there are, and the live bytes.
@@ -111,6 +116,32 @@ impl<'f> Trial<'f> {
         into.get(..scanned.bytes as usize) == Some(body)
     }
 
+    fn scans_rows(
+        &mut self,
+        key: &[u8],
+        count: u32,
+        into: &mut [u8],
+        body: &[u8],
+        did: ScannedRows,
+    ) -> bool {
+        self.scan_rows(0, key, count, into) == Some(did) && into.get(..body.len()) == Some(body)
+    }
+
+    fn scans_into(
+        &mut self,
+        alloc: Global,
+        key: &[u8],
+        count: u32,
+        room: usize,
+        body: &[u8],
+        did: ScannedRows,
+    ) -> bool {
+        let Ok(mut into) = Vec::from_elem(alloc, b'-', room) else {
+            return false;
+        };
+        self.scans_rows(key, count, into.as_mut_slice(), body, did)
+    }
+
     // Whether a block is lent with this value of a key behind its head, or with none, and comes home once it is released.
     pub(crate) fn lends(&mut self, table: u8, key: &[u8], value: Option<&[u8]>) -> bool {
         let mut tags = [0u32; MOST];
@@ -147,6 +178,25 @@ impl<'f> Trial<'f> {
             Step::Patches(key, at, bytes, patch) => self.patch(0, key, at, bytes) == Some(patch),
             Step::Erases(key, found) => self.erase(0, key) == Some(found),
             Step::Scans(key, count, body) => self.scans(key, count, body),
+            Step::ScansRows(key, count, room, rows, body, wanted) => {
+                let Ok(bytes) = u32::try_from(body.len()) else {
+                    return false;
+                };
+                let did = ScannedRows {
+                    rows,
+                    bytes,
+                    wanted,
+                };
+                self.scans_into(alloc, key, count, room, body, did)
+            }
+            Step::ScansLong(key, count, room, rows, bytes, wanted) => {
+                let did = ScannedRows {
+                    rows,
+                    bytes,
+                    wanted,
+                };
+                self.scans_into(alloc, key, count, room, b"", did)
+            }
             Step::Lends(key, value) => self.lends(0, key, value),
             _ => self.stands(step),
         }

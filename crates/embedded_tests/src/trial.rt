@@ -5,11 +5,14 @@ ghost use Rattle.foreign_list.specs.OwnerSeats.{IsAtRest};
 ghost use Rattle.embedded_cache.specs.States.{IsUnguarded, most_bound};
 
 use embedded_cache::{
-    Cache, Foreign, Lent, Opening, OwnerSeat, Patch, PutAnswer, Scanned, Share, Stats,
+    Cache, Foreign, Lent, Opening, OwnerSeat, Patch, PutAnswer, Scanned, ScannedRows, Share, Stats,
 };
-use layout::{FEWEST_TABLE_PAGES, GREATEST_KEY, GREATEST_VALUE, TABLES};
+use layout::{FEWEST_TABLE_PAGES, GREATEST_KEY, GREATEST_VALUE, MOST_KEYS, TABLES};
 use std::alloc::Global;
 use std::test::Fail;
+
+// So few rows may wait for their places in the order of keys that puts bring some in.
+const WAITING: u32 = 3;
 
 // The bytes in front of a value that is lent.
 const HEAD: u32 = 16;
@@ -51,6 +54,7 @@ impl<'f> Trial<'f> {
             rows,
             regions: 1,
             bound,
+            waiting: WAITING,
         };
         let cache = Cache::open(alloc, opening, home, seat)?;
         Ok(Trial { cache })
@@ -75,6 +79,7 @@ impl<'f> Trial<'f> {
             rows,
             regions: TABLES,
             bound,
+            waiting: WAITING,
         };
         let cache = Cache::open(alloc, opening, home, seat)?;
         Ok(Trial { cache })
@@ -183,6 +188,19 @@ impl<'f> Trial<'f> {
             return None;
         }
         Some(self.cache.scan(table, from, count, into))
+    }
+
+    pub(super) fn scan_rows(
+        &mut self,
+        table: u8,
+        from: &[u8],
+        count: u32,
+        into: &mut [u8],
+    ) -> Option<ScannedRows> {
+        if table as u32 >= TABLES || count == 0 || count > MOST_KEYS {
+            return None;
+        }
+        Some(self.cache.scan_rows(table, from, count, into))
     }
 
     // Lends a block with the value of a key behind its head. None where no ticket is idle too.

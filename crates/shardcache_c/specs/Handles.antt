@@ -4,7 +4,7 @@ use Rattle.rows.specs.Key.{Key}
 use Rattle.row_cache.specs.declared.put.Put.{Put}
 use Rattle.row_cache.specs.declared.put.Put.TheVariants.{Stored, Replaced}
 use Rattle.embedded_cache.specs.Puts.{Puts}
-use Rattle.embedded_cache.specs.States.{CanOpen, EmbeddedState, most_bound}
+use Rattle.embedded_cache.specs.States.{CanOpen, EmbeddedState, most_bound, most_waiting}
 use Rattle.embedded_cache.specs.declared.opening.Opening.{Opening}
 use Rattle.embedded_cache.specs.declared.put_answer.PutAnswer.{PutAnswer}
 use Rattle.shardcache_c.specs.declared.shard.Opened.{Opened}
@@ -23,8 +23,8 @@ abbrev pub cache_of : Option Shard → Option EmbeddedState
 cache_of None = None
 cache_of (Some shard) = cache_in shard
 
--- What is asked for at an opening: 0 stands for the greatest bound.
-pub record IsAsked (pages rows groups bound : ℕ) (opening : Opening) : Type 0 where
+-- What is asked for at an opening: 0 stands for the greatest bound, and for the usual number of rows that may wait.
+pub record IsAsked (pages rows groups bound waiting : ℕ) (opening : Opening) : Type 0 where
   pub can : CanOpen opening
   pub shard : opening.shard ≡ 0
   pub pages_are : opening.pages ≡ pages
@@ -32,6 +32,8 @@ pub record IsAsked (pages rows groups bound : ℕ) (opening : Opening) : Type 0 
   pub groups_are : opening.regions ≡ groups
   pub asked : bound ≢ 0 → opening.bound ≡ bound
   pub default : bound ≡ 0 → opening.bound ≡ most_bound pages groups
+  pub waits : waiting ≢ 0 → opening.waiting ≡ waiting
+  pub waits_as_usual : waiting ≡ 0 → opening.waiting ≡ most_waiting
 
 -- whether a row was replaced
 abbrev pub replaces : Put → Bool

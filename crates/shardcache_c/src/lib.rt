@@ -2,7 +2,7 @@
 //!
 //! What C holds is a number and a pointer without a type (`Handle`, `Kept`). That they own a boxed `Shard`, and that nothing
 //! else reaches it, is proved by hand, in `bare.rt` and the three files `kept.rt`, `kept_lease.rt` and `kept_mailbox.rt` alone.
-//! A `Shard` is a cache that is open, or the list with which the next one is opened (`shard.rt`). Each of the twenty-four
+//! A `Shard` is a cache that is open, or the list with which the next one is opened (`shard.rt`). Each of the twenty-five
 //! exports takes what its handle keeps out, does its call and puts it back, unless it closes a block or a mailbox.
 //!
 //! A lent block has a handle of its own (`lease.rt`, `LeaseHandle`), by which any thread reads its bytes and releases it, and

@@ -1,15 +1,23 @@
 //! What a cache can be opened with.
 ghost use Rattle.std.specs.Prelude.{◌≡◌, ◌≢◌, ◌⊎◌, ◌-◌, ◌^◌, ◌<◌, ◌≤◌, true, IfOk, IfErr};
 ghost use Rattle.layout.specs.Sizes as sizes;
+ghost use Rattle.embedded_cache.specs.States.{most_waiting};
 ghost use Rattle.shardcache_c.specs.Handles.{IsAsked};
 
 use crate::codes::{BAD_BOUND, BAD_SIZE};
-use embedded_cache::{Opening, most_bound};
+use embedded_cache::{MOST_WAITING, Opening, most_bound};
 use layout::{FEWEST_PAGES, FEWEST_TABLE_PAGES, MOST_PAGES, SEGMENT_PAGES, TABLES};
 
-/// What a cache of these numbers is opened with, where a bound of 0 stands for the greatest one. Else the code of what is wrong.
-pub(crate) fn opening_of(pages: u32, rows: u32, groups: u32, bound: u64) -> Result<Opening, u32>
-    ensures asked { IfOk result (IsAsked pages rows groups bound) }
+/// What a cache of these numbers is opened with, where a bound of 0 stands for the greatest one, and 0 rows that may wait for the
+/// usual number. Else the code of what is wrong.
+pub(crate) fn opening_of(
+    pages: u32,
+    rows: u32,
+    groups: u32,
+    bound: u64,
+    waiting: u32,
+) -> Result<Opening, u32>
+    ensures asked { IfOk result (IsAsked pages rows groups bound waiting) }
     ensures code { IfErr result (λ code. code ≢ 0) }
 {
     if !are_pages(pages) {
@@ -31,6 +39,7 @@ pub(crate) fn opening_of(pages: u32, rows: u32, groups: u32, bound: u64) -> Resu
         rows,
         regions: groups,
         bound: bound_of(bound, most),
+        waiting: waiting_of(waiting),
     })
 }
 
@@ -42,6 +51,14 @@ fn bound_of(bound: u64, most: u64) -> u64
     ensures default { bound ≡ 0 → result ≡ most }
 {
     if bound == 0 { most } else { bound }
+}
+
+// How many rows may wait, or the usual number in place of 0.
+fn waiting_of(waiting: u32) -> u32
+    ensures asked { waiting ≢ 0 → result ≡ waiting }
+    ensures default { waiting ≡ 0 → result ≡ most_waiting }
+{
+    if waiting == 0 { MOST_WAITING } else { waiting }
 }
 
 fn are_pages(pages: u32) -> bool

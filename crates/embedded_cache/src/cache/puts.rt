@@ -10,7 +10,7 @@ ghost use Rattle.embedded_cache.specs.States.{IsUnguarded};
 
 use super::Cache;
 use crate::put_answer::PutAnswer;
-use crate::storing::{join, put_written};
+use crate::storing::{join, put_settled};
 
 impl<'f> Cache<'f> {
     /// Stores a row of a table, 0 to 7, in front of the others; no other row has its key in the table afterwards. It always stores.
@@ -38,7 +38,7 @@ impl<'f> Cache<'f> {
         // Blocks may have come home.
         ensures taken { TakesBack self.old.store self.new.store }
     {
-        let answer = put_written(
+        let answer = put_settled(
             &mut self.store,
             self.limits,
             table,
@@ -75,7 +75,7 @@ impl<'f> Cache<'f> {
         ensures taken { TakesBack self.old.store self.new.store }
     {
         join(&mut self.joined, first, second);
-        let answer = put_written(
+        let answer = put_settled(
             &mut self.store,
             self.limits,
             table,

@@ -11,7 +11,8 @@ use embedded_cache::Opening;
 use std::alloc::Global;
 
 /// Opens a cache of so many pages with room for so many rows, whose tables share the segments where `groups` is 1, and have
-/// segments of their own where it is 8. Rows go while more bytes are live than the bound, where 0 stands for the greatest one.
+/// segments of their own where it is 8. Rows go while more bytes are live than the bound, where 0 stands for the greatest one. So many
+/// rows may wait for their places in the order of keys, where 0 stands for 1,024.
 #[unsafe(no_mangle)]
 pub extern "C" fn shardcache_open(
     alloc: Global,
@@ -20,6 +21,7 @@ pub extern "C" fn shardcache_open(
     rows: u32,
     groups: u32,
     bound: u64,
+    waiting: u32,
 ) -> u32
     ensures done { result ≡ 0 → (cache : EmbeddedState) × (cache_of handle.new.kept.value ≡ Some cache) × (cache.store.rows ≡ [])
         × (cache.store.pages ≡ pages) × (cache.store.room ≡ rows) × (cache.store.regions ≡ groups)
@@ -27,7 +29,7 @@ pub extern "C" fn shardcache_open(
     ensures closed { result ≡ 0 → cache_of handle.old.kept.value ≡ None }
     ensures refused { result ≢ 0 → cache_of handle.new.kept.value ≡ cache_of handle.old.kept.value }
 {
-    let opening = match opening_of(pages, rows, groups, bound) {
+    let opening = match opening_of(pages, rows, groups, bound, waiting) {
         Ok(opening) => opening,
         Err(code) => return code,
     };

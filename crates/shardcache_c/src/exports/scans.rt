@@ -1,8 +1,9 @@
-//! Keys in their order.
+//! Keys in their order, and rows in the order of their keys.
 ghost use Rattle.std.specs.Prelude.{◌≡◌, Some, length, take};
 ghost use Rattle.rows.specs.Key.{in_table};
 ghost use Rattle.rows.specs.KeyBody.{AreKeys};
 ghost use Rattle.rows.specs.Apply as apply;
+ghost use Rattle.embedded_cache.specs.Scans.{WritesRows};
 ghost use Rattle.embedded_cache.specs.States.{EmbeddedState};
 ghost use Rattle.shardcache_c.specs.Handles.{cache_in, cache_of};
 
@@ -76,6 +77,74 @@ fn scan_keys(
     *did = Scan {
         keys: scanned.keys,
         bytes: scanned.bytes,
+    };
+    DONE
+}
+
+/// What a scan with values wrote, and how many bytes the next row takes, where there was no room for it; else 0.
+#[repr(C)]
+#[derive(Drop)]
+pub struct RowScan {
+    pub rows: u32,
+    pub bytes: u32,
+    pub wanted: u32,
+}
+
+/// Writes the first rows of a table at or above a key, as many as fit whole: each its key behind its length in two bytes, its tag in
+/// four, the length of its value in two, and its value, low bytes first.
+#[unsafe(no_mangle)]
+pub extern "C" fn shardcache_scan_rows(
+    alloc: Global,
+    handle: &mut Handle,
+    table: u8,
+    from: &[u8],
+    count: u32,
+    into: &mut [u8],
+    did: &mut RowScan,
+) -> u32
+    ensures done { result ≡ 0 → (old : EmbeddedState) × (cache_of handle.old.kept.value ≡ Some old)
+        × WritesRows table (apply.scanned (in_table table from.now) count old.store.rows) old.store.rows did.new.rows did.new.bytes
+        did.new.wanted into.old into.new }
+    ensures unchanged { handle.new.kept.value ≡ handle.old.kept.value }
+{
+    let Some(mut shard) = handle.take(alloc) else {
+        return CLOSED;
+    };
+    let code = scan_rows(&mut shard, table, from, count, into, did);
+    handle.put(shard);
+    code
+}
+
+fn scan_rows(
+    shard: &mut Shard,
+    table: u8,
+    from: &[u8],
+    count: u32,
+    into: &mut [u8],
+    did: &mut RowScan,
+) -> u32
+    ensures done { result ≡ 0 → (old : EmbeddedState) × (cache_in shard.old ≡ Some old)
+        × WritesRows table (apply.scanned (in_table table from.now) count old.store.rows) old.store.rows did.new.rows did.new.bytes
+        did.new.wanted into.old into.new }
+    ensures unchanged { shard.new ≡ shard.old }
+{
+    if table as u32 >= TABLES {
+        return BAD_TABLE;
+    }
+    if count > MOST_KEYS || count == 0 {
+        return BAD_COUNT;
+    }
+    let Some(opened) = &mut shard.opened else {
+        return CLOSED;
+    };
+    if opened.cache.is_guarded() {
+        return GUARDED;
+    }
+    let scanned = opened.cache.scan_rows(table, from, count, into);
+    *did = RowScan {
+        rows: scanned.rows,
+        bytes: scanned.bytes,
+        wanted: scanned.wanted,
     };
     DONE
 }

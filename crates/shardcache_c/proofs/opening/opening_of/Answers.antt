@@ -26,4 +26,6 @@ returns-clause-asked c =
       groups_are = refl;
       asked = c.bound_of.ensures.asked;
       default = λ none. c.bound_of.ensures.default none ∙ most;
+      waits = c.waiting_of.ensures.asked;
+      waits_as_usual = c.waiting_of.ensures.default;
     }

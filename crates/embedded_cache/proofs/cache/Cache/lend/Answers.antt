@@ -32,6 +32,7 @@ returns-clause-lends c =
       store = did.new.store;
       limits = i.limits;
       joined = i.joined;
+      body = i.body;
       evictions = c.saturating_add-self-inside.result;
       gets = i.gets;
       hits = i.hits;
