@@ -122,7 +122,7 @@ SECTIONS = {"first": ("The first command", first_command), "gate": ("The gate", 
 PLANTED = "What `rt plant` lets through"
 HEAD = """# What the gate takes, and what it lets through
 
-The times are written by `bench/gate.sh`, which runs each from nothing in a fresh clone with nothing else on the machine. A crate's figures are read
+The times are written by `bench/gate.sh`, which runs each from nothing in a fresh clone and wants the machine to itself. A crate's figures are read
 off its processes as they run; the sums in bold are the system's own.
 """
 TIMES = ("<!-- times -->\n", "<!-- /times -->")
