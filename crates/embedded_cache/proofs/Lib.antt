@@ -1,5 +1,4 @@
 pub mod Gone
-pub mod KeyBodies
 pub mod Kept
 pub mod Putting
 pub mod RowsWritten

@@ -1,6 +1,6 @@
 //! Rows that are written one behind another, for a scan with values.
-ghost use Rattle.std.specs.Prelude.{◌≡◌, ◌+◌, ◌*◌, ◌<◌, ◌≤◌, ◌++◌, ◌↔◌, ℕ, List, [], ◌∷◌, length, take, drop, true, false, Some, All, IsNone, IfNone, IfSome};
-ghost use Rattle.std.specs.Int.{w16, w32, from_le_bytes, to_le_bytes};
+ghost use Rattle.std.specs.Prelude.{◌≡◌, ◌+◌, ◌*◌, ◌<◌, ◌≤◌, ◌++◌, ℕ, List, length, drop, true, false, Some, All};
+ghost use Rattle.std.specs.Int.{w16, w32, to_le_bytes};
 ghost use Rattle.layout.specs.Sizes.{greatest_key, greatest_value, most_keys, tables};
 ghost use Rattle.rows.specs.Key.{in_table};
 ghost use Rattle.rows.specs.KeyBody.{AreKeys};
@@ -11,7 +11,7 @@ ghost use Rattle.embedded_cache.specs.Scans.{field_of, WritesRows};
 ghost use Rattle.embedded_cache.specs.inside.Scanning.{LacksPlace, PutsBehind, row_room};
 
 use crate::scanned_rows::ScannedRows;
-use row_bytes::{a_row_is_read_as_it_is_written, write_key};
+use row_bytes::{a_row_is_read_as_it_is_written, first_key, write_key};
 use shard_store::ShardStore;
 
 // Of the rows of a body's keys writes as many of the first as fit, each of them whole, to the front of `into`.
@@ -44,28 +44,6 @@ pub(crate) fn write_rows(
         rest = behind;
     }
     did
-}
-
-// The first key of a body of keys, and the body of the other keys. None where there is no key.
-fn first_key(body: &[u8]) -> Option<(&[u8], &[u8])>
-    requires { (keys : List (List ℕ)) × AreKeys body.now keys }
-    ensures none { IfNone result ((keys : List (List ℕ)) → AreKeys body.now keys → keys ≡ []) }
-    ensures first { IfSome result (λ cut. (keys : List (List ℕ)) → AreKeys body.now keys → (rest : List (List ℕ))
-        × (keys ≡ cut.0.now ∷ rest) × IsKey cut.0.now × AreKeys cut.1.now rest) }
-    ensures shorter { IfSome result (λ cut. length cut.1.now < length body.now) }
-{
-    let [low, high, behind @ ..] = body else {
-        return None;
-    };
-    let len = key_length(*low, *high);
-    Some(behind.split_at(len as usize))
-}
-
-// The length that two bytes spell, low byte first.
-fn key_length(low: u8, high: u8) -> u16
-    ensures { result ≡ from_le_bytes w16 (low ∷ high ∷ []) }
-{
-    u16::from_le_bytes([low, high])
 }
 
 // The value and the tag of a key that has a row.

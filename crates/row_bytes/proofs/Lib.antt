@@ -1,3 +1,4 @@
 pub mod Fields
+pub mod KeyBodies
 pub mod Pieces
 pub mod Patched

@@ -10,12 +10,14 @@
 //!   its other link, and a clause says of each that it is the same.
 //! - `row_header` gives the header alone. The key and the value go into the object from where they stand, so that no byte is
 //!   written twice; what the three are together, with the zeros behind them, its clauses say.
-//! - A row as it comes (`NewRow`) and the key that a scan writes (`write_key`) stand here, since two crates want each.
+//! - A row as it comes (`NewRow`), and the keys of a body as they are written (`write_key`) and read (`first_key`), stand here,
+//!   since two crates and more want each.
 //! - `set_value` writes over bytes of a value and leaves its length, so the content is of the same row with another value, and
 //!   the object keeps its size.
 //!
 //! # Promises
 //! - A row is read as it is written (`a_row_is_read_as_it_is_written`).
+//! - The first key of a body of keys is told with the body behind it, none exactly where there is no byte (`first_key`).
 #![tactic(auto)]
 
 mod keys;
@@ -26,7 +28,7 @@ mod patching;
 mod reading;
 mod writing;
 
-pub use keys::{Scanned, write_key};
+pub use keys::{Scanned, first_key, write_key};
 pub use law::a_row_is_read_as_it_is_written;
 pub use links::{Links, NO_LINK, newer_in, older_in, set_newer, set_older};
 pub use new_row::NewRow;

@@ -1,37 +1,15 @@
 //! The keys of a body of keys.
-ghost use Rattle.std.specs.Int.{w16, from_le_bytes, to_le_bytes};
+ghost use Rattle.std.specs.Int.{w16, to_le_bytes};
 ghost use Rattle.std.specs.Prelude.{◌≡◌, ℕ, ◌+◌, ◌^◌, ◌<◌, ◌≤◌, ◌↔◌, List, [], ◌∷◌, ◌++◌, length, map, take, flat_map, vec_len, All, IsNone, IfNone, IfSome, OnOk, OnErr};
 ghost use Rattle.layout.specs.Sizes.{greatest_key};
 ghost use Rattle.trace_text.specs.Operation.{part};
-ghost use Rattle.rows.specs.KeyBody.{AreKeys, AreKeysAt};
+ghost use Rattle.rows.specs.KeyBody.{AreKeysAt};
 ghost use Rattle.rows.specs.Spelled.{key_field};
 
 use byteorder::{ByteOrder, LittleEndian};
+use row_bytes::first_key;
 use std::alloc::AllocError;
 use trace_text::Span;
-
-/// The first key of a body of keys, and the body of the other keys; None where there is no key.
-fn first_key(body: &[u8]) -> Option<(&[u8], &[u8])>
-    requires { (keys : List (List ℕ)) × AreKeys body.now keys }
-    ensures end { IsNone result ↔ (body.now ≡ []) }
-    ensures none { IfNone result ((keys : List (List ℕ)) → AreKeys body.now keys → keys ≡ []) }
-    ensures first { IfSome result (λ cut. (keys : List (List ℕ)) → AreKeys body.now keys → (rest : List (List ℕ)) ×
-        (keys ≡ cut.0.now ∷ rest) × AreKeys cut.1.now rest) }
-    ensures shorter { IfSome result (λ cut. 2 + length cut.0.now + length cut.1.now ≡ length body.now) }
-{
-    let [low, high, behind @ ..] = body else {
-        return None;
-    };
-    let len = key_length(*low, *high);
-    Some(behind.split_at(len as usize))
-}
-
-/// The length that two bytes spell, low byte first.
-fn key_length(low: u8, high: u8) -> u16
-    ensures { result ≡ from_le_bytes w16 (low ∷ high ∷ []) }
-{
-    LittleEndian::read_u16(&[low, high])
-}
 
 /// The two bytes of a length, low byte first.
 fn length_bytes(len: u16) -> [u8; 2]

@@ -8,34 +8,10 @@ ghost use Rattle.foreign_list.specs.OwnerSeats.{IsSeatOf, IsAtRest};
 ghost use Rattle.foreign_list.specs.Blocks.{piece_id_of, IsFresh};
 ghost use Rattle.span_lists.specs.Layout.{allocated_pages};
 ghost use Rattle.small_pools.specs.Objects.{Trims};
-ghost use Rattle.shard_memory.specs.Room.{
-  LacksBlock,
-  LacksSegment,
-  IsAllFree,
-  IsRoomOf,
-  IsTrimmed,
-  KeepsRoom,
-  HasAllRoom,
-  PutsObject,
-  TakesSegment,
-  PutsSegment,
-};
+ghost use Rattle.shard_memory.specs.Room.{LacksBlock, LacksSegment, IsAllFree, IsRoomOf, IsTrimmed, KeepsRoom, HasAllRoom, PutsObject, TakesSegment, PutsSegment};
 ghost use Rattle.layout.specs.Counts.{raised};
 ghost use Rattle.shard_memory.specs.Tickets.{first_ticket, end_ticket, HasIdle, IsLeastIdle, tickets_out};
-ghost use Rattle.shard_memory.specs.Shards.{
-  MemoryState,
-  most_blocks,
-  longest_span,
-  AreApart,
-  AreOfRange,
-  HaveObjects,
-  IsBlockOf,
-  IsSegmentOf,
-  IsCrowded,
-  SetsAside,
-  TakesPages,
-  ComeBack,
-};
+ghost use Rattle.shard_memory.specs.Shards.{MemoryState, most_blocks, longest_span, AreApart, AreOfRange, HaveObjects, IsBlockOf, IsSegmentOf, IsCrowded, SetsAside, TakesPages, ComeBack};
 ghost use Rattle.shard_memory.specs.Refusals.{RefusesFor, RefusesHere};
 ghost use Rattle.shard_memory.specs.inside.Lending.{AreLent, ArePutBack};
 

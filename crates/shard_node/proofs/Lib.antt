@@ -1,3 +1,4 @@
+pub mod Lent
 pub mod OwnParts
 pub mod Requests
 pub mod Replies

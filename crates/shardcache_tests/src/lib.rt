@@ -7,8 +7,6 @@
 #![tactic(auto)]
 
 #[cfg(test)]
-mod plain;
-#[cfg(test)]
 mod program_tests;
 #[cfg(test)]
 mod settings_tests;

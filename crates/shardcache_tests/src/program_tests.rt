@@ -4,7 +4,6 @@ mod evictions;
 mod examples;
 mod faults;
 mod gates;
-mod judged;
 mod limits;
 mod long_values;
 mod printed;

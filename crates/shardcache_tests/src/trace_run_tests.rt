@@ -9,7 +9,6 @@ ghost use Rattle.layout.specs.Sizes.{ArePages};
 ghost use Rattle.trace_text.specs.Parsed.{trace_in};
 ghost use Rattle.shard_node.specs.Nodes.{HasTablePages};
 
-use crate::plain::apply_to;
 use layout::{FEWEST_PAGES, FEWEST_TABLE_PAGES, TABLES};
 use plain_cache::{Entry, Plain, ReplyKind, ReplyLog};
 use rand_core::utils::NextWord;
@@ -131,6 +130,25 @@ fn first_parts(alloc: Global, trace: &Trace, shards: u32) -> Result<Vec<u32>, Al
         }
     }
     Ok(firsts)
+}
+
+/// Does the command of a number on a plain cache, and answers its reply, whose body is appended; nothing where the trace has no such
+/// command.
+fn apply_to(
+    plain: &mut Plain,
+    alloc: Global,
+    trace: &Trace,
+    number: u32,
+    body: &mut Vec<u8>,
+) -> Result<Option<ReplyKind>, AllocError> {
+    let index = number.wrapping_sub(1) as usize;
+    let Some(command) = trace.commands().get(index) else {
+        return Ok(None);
+    };
+    if plain.rows() == u32::MAX {
+        return Ok(None);
+    }
+    Ok(Some(plain.apply(alloc, trace, command, body)?))
 }
 
 /// What a shard did is judged by a plain cache.

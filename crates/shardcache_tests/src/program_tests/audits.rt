@@ -1,6 +1,7 @@
 //! Reports that are checked against their traces.
-use super::evictions::{Part, text_of};
+use super::evictions::{Part, put_letters, text_of};
 use super::limits::many;
+use super::printed::lines_of;
 use super::{answer, first_unlike};
 use shardcache::Status;
 use std::alloc::{AllocError, Global};
@@ -18,6 +19,29 @@ fn framed(alloc: Global, trace: &[u8], report: &[u8]) -> Result<Vec<u8>, AllocEr
     Ok(input)
 }
 
+/// The report that a run or the like of these words, behind its mode, writes to a sink of so much room, where it is legal to an audit
+/// of the same words.
+fn legal_report<R: Threads + Wait + Sync>(
+    rt: &R,
+    alloc: Global,
+    mode: &'static str,
+    words: &[&'static str],
+    trace: &[u8],
+    room: usize,
+) -> Result<Option<Vec<u8>>, AllocError> {
+    let mut run = Vec::from_slice(alloc, &[mode])?;
+    run.extend_from_slice(words)?;
+    let mut audit = Vec::from_slice(alloc, &["audit"])?;
+    audit.extend_from_slice(words)?;
+    let (done, report) = answer(rt, alloc, run.as_slice(), trace, &[], room)?;
+    let input = framed(alloc, trace, report.as_slice())?;
+    let (status, verdict) = answer(rt, alloc, audit.as_slice(), input.as_slice(), &[], 4096)?;
+    let legal = done == Status::Done
+        && status == Status::Done
+        && verdict.as_slice() == b"legal\n".as_slice();
+    Ok(legal.then_some(report))
+}
+
 /// Whether a run of these words, behind its mode, writes a report that is legal to an audit of the same words.
 fn is_legal<R: Threads + Wait + Sync>(
     rt: &R,
@@ -25,18 +49,8 @@ fn is_legal<R: Threads + Wait + Sync>(
     words: &[&'static str],
     trace: &[u8],
 ) -> Result<bool, AllocError> {
-    let mut run = Vec::from_slice(alloc, &["run"])?;
-    run.extend_from_slice(words)?;
-    let mut audit = Vec::from_slice(alloc, &["audit"])?;
-    audit.extend_from_slice(words)?;
-    let (done, report) = answer(rt, alloc, run.as_slice(), trace, &[], 8_388_608)?;
-    let input = framed(alloc, trace, report.as_slice())?;
-    let (status, verdict) = answer(rt, alloc, audit.as_slice(), input.as_slice(), &[], 4096)?;
-    Ok(
-        done == Status::Done
-            && status == Status::Done
-            && verdict.as_slice() == b"legal\n".as_slice(),
-    )
+    let report = legal_report(rt, alloc, "run", words, trace, 8_388_608)?;
+    Ok(report.is_some())
 }
 
 #[test]
@@ -198,5 +212,70 @@ fn a_report_of_tables_is_legal(rt: HostRuntime) -> Result<(), Fail> {
         &[Part::Text(b"version 2\n"), Part::PutsIn(3, 1, 461)],
     )?;
     assert!(rt; is_legal(&rt, rt.alloc(), &["--pages", "1536"], trace.as_slice())?);
+    Ok(())
+}
+
+/// Puts of a thousand keys, each of which is read by the next command: of two shards the first issues the puts, the second the gets.
+fn puts_and_gets(alloc: Global) -> Result<Vec<u8>, AllocError> {
+    let mut lines = Vec::new(alloc);
+    for number in 1..=1000 {
+        let key = format!(in alloc; "k{number}")?;
+        put_letters(alloc, &mut lines, key.as_str())?;
+        lines.extend_from_slice(format!(in alloc; "get {key}\n")?.as_bytes())?;
+    }
+    Ok(lines)
+}
+
+/// Whether a line is a journal in which a row went.
+fn has_evicted(line: &str) -> bool {
+    let Some(journal) = line.strip_prefix("journal ") else {
+        return false;
+    };
+    for entry in journal.split(' ') {
+        if entry.strip_prefix('!').is_some() {
+            return true;
+        }
+    }
+    false
+}
+
+/// How many shards evicted, by their report.
+fn shards_that_evicted(alloc: Global, report: &[u8]) -> Result<u32, Fail> {
+    let lines = lines_of(alloc, report)?;
+    let mut shards = 0u32;
+    for line in lines.as_slice() {
+        if has_evicted(line) {
+            shards = shards.wrapping_add(1);
+        }
+    }
+    Ok(shards)
+}
+
+/// The legal report of a mode on two shards of 1,280 pages.
+fn of_two<R: Threads + Wait + Sync>(
+    rt: &R,
+    alloc: Global,
+    mode: &'static str,
+    trace: &[u8],
+) -> Result<Option<Vec<u8>>, AllocError> {
+    let words = ["--shards", "2", "--pages", "1280", "--number", "3"];
+    legal_report(rt, alloc, mode, words.as_slice(), trace, 20_000_000)
+}
+
+#[test]
+fn two_shards_that_evict_write_legal_reports(rt: HostRuntime) -> Result<(), Fail> {
+    let trace = puts_and_gets(rt.alloc())?;
+    let run = of_two(&rt, rt.alloc(), "run", trace.as_slice())?.ok_or("run")?;
+    assert_eq!(rt; shards_that_evicted(rt.alloc(), run.as_slice())?, 2);
+    Ok(())
+}
+
+#[test]
+fn one_number_makes_one_report(rt: HostRuntime) -> Result<(), Fail> {
+    let trace = puts_and_gets(rt.alloc())?;
+    let first = of_two(&rt, rt.alloc(), "sim", trace.as_slice())?.ok_or("first")?;
+    let second = of_two(&rt, rt.alloc(), "sim", trace.as_slice())?.ok_or("second")?;
+    assert_eq!(rt; shards_that_evicted(rt.alloc(), first.as_slice())?, 2);
+    assert!(rt; first.as_slice() == second.as_slice());
     Ok(())
 }

@@ -12,7 +12,7 @@ use Rattle.shard_node.proofs.Standing.Counted.{lent_backs}
 use Rattle.shard_node.proofs.Requests.Told.{evicted, quiet-behind, refill-whole, spare-left}
 use Rattle.part_lemmas.proofs.Recording.{told-recorded}
 use Rattle.row_lemmas.proofs.Laws.{evictions_are_counted-count}
-use Rattle.store_lemmas.proofs.Lent.{lends-later, lends-written}
+use Rattle.shard_node.proofs.Lent.{lends-later, lends-written}
 use Rattle.shard_node.proofs.messages.reply_erase.Goals as goal
 
 pub note_done-requires : goal.note_done-requires

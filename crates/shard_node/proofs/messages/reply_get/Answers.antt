@@ -12,7 +12,7 @@ use Rattle.shard_store.specs.Works.{floor_of}
 use Rattle.shard_node.proofs.Requests.Told.{noted, refill-whole, spare-left}
 use Rattle.part_lemmas.proofs.Recording.{told-recorded}
 use Rattle.row_lemmas.proofs.Laws.{evictions_are_counted-count}
-use Rattle.store_lemmas.proofs.Lent.{lends-written}
+use Rattle.shard_node.proofs.Lent.{lends-written}
 use Rattle.shard_node.proofs.messages.reply_get.Goals as goal
 
 pub note_done-requires : goal.note_done-requires

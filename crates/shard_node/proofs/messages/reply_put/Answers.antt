@@ -11,7 +11,7 @@ use Rattle.shard_store.specs.Works.{floor_of, pressure}
 use Rattle.shard_node.proofs.Requests.Told.{done-behind, evicted, place-kept, refill-whole, spare-left}
 use Rattle.row_lemmas.proofs.Laws.{evictions_are_counted-count}
 use Rattle.part_lemmas.proofs.Recording.{told-recorded}
-use Rattle.store_lemmas.proofs.Lent.{lends-later, lends-written}
+use Rattle.shard_node.proofs.Lent.{lends-later, lends-written}
 use Rattle.shard_node.proofs.messages.reply_put.Goals as goal
 
 pub put_row-did-requires-clause-tables : goal.put_row-did-requires-clause-tables

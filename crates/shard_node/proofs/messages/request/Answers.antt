@@ -4,7 +4,7 @@ use Rattle.std.specs.List.{refill, length_refill}
 use Rattle.shard_memory.specs.declared.share.Share.{Share as Shares}
 use Rattle.shard_node.proofs.Requests.Told.{evicted}
 use Rattle.part_lemmas.proofs.Recording.{told-recorded}
-use Rattle.store_lemmas.proofs.Lent.{lends-written}
+use Rattle.shard_node.proofs.Lent.{lends-written}
 use Rattle.shard_node.proofs.messages.request.Goals as goal
 
 pub request_size-size-requires-clause-key : goal.request_size-size-requires-clause-key

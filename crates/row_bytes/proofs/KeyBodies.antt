@@ -10,11 +10,11 @@ use Rattle.rows.specs.Spelled.{key_field, IsKey}
 use Rattle.rows.specs.KeyBody.{AreKeys}
 
 -- the length that two bytes spell
-abbrev len_of : ℕ → ℕ → ℕ
+abbrev pub len_of : ℕ → ℕ → ℕ
 len_of low high = from_le_bytes w16 (low ∷ high ∷ [])
 
 -- The keys behind the first one, where its length is in these bytes.
-record HasFirst (low high : ℕ) (behind : List ℕ) (keys : List (List ℕ)) : Type 0 where
+pub record HasFirst (low high : ℕ) (behind : List ℕ) (keys : List (List ℕ)) : Type 0 where
   pub rest : List (List ℕ)
   pub within : len_of low high ≤ length behind
   pub keys_are : keys ≡ take (len_of low high) behind ∷ rest
@@ -29,7 +29,7 @@ cut_after key others behind n long is = (
   rw (long, is) (drop-append_seam key others),
 )
 
-has_first : (low high : ℕ) (behind : List ℕ) (keys : List (List ℕ)) → AreKeys (low ∷ high ∷ behind) keys → HasFirst low high behind keys
+pub has_first : (low high : ℕ) (behind : List ℕ) (keys : List (List ℕ)) → AreKeys (low ∷ high ∷ behind) keys → HasFirst low high behind keys
 has_first low high behind [] p =
     let e : low ∷ high ∷ behind ≡ [] = p.spelled in
     absurd (cc e)
@@ -53,13 +53,6 @@ two_up [] long = absurd (omega (arith, long))
 two_up (low ∷ []) long = absurd (omega (arith, long))
 two_up (low ∷ high ∷ behind) long = refl
 
--- a body with keys has room for the first of them
-pub first_within : (body : List ℕ) (n : ℕ) → 2 ≤ length body → n ≡ len_of (get_or body 0 0) (get_or body 1 0) → (keys : List (List ℕ)) → AreKeys body keys
-    → n ≤ length (take (length body - 2) (drop 2 body))
-first_within body n long n_is keys p =
-    let first = has_first (get_or body 0 0) (get_or body 1 0) (drop 2 body) keys (subst (λ bytes. AreKeys bytes keys) (two_up body long) p) in
-    let within = first.within in let rest = ap length (take_rest body 2) in omega (arith, within, n_is, rest)
-
 -- The body behind the two bytes is cut behind the key.
 pub first_cut : (body key behind : List ℕ) (n : ℕ) → 2 ≤ length body → n ≡ len_of (get_or body 0 0) (get_or body 1 0)
     → key ≡ take n (take (length body - 2) (drop 2 body)) → behind ≡ drop n (take (length body - 2) (drop 2 body))
@@ -76,6 +69,6 @@ first_cut body key behind n long n_is key_is behind_is keys p =
     )
 
 -- a body of less than two bytes has no keys
-pub no_keys : (body : List ℕ) (keys : List (List ℕ)) → length body < 2 → AreKeys body keys → keys ≡ []
-no_keys body [] few p = refl
+pub no_keys : (body : List ℕ) (keys : List (List ℕ)) → length body < 2 → AreKeys body keys → (keys ≡ []) × (body ≡ [])
+no_keys body [] few p = (refl, p.spelled)
 no_keys body (key ∷ keys) few p = absurd (omega (arith, few, ap length p.spelled))
