@@ -84,6 +84,9 @@ typedef struct sc_opening {
     /* The most new rows that may wait for their places in the order of keys: a put that finds more brings one of them in, so that no
      * scan has to sort more than so many. 0 stands for SC_WAITING. UINT32_MAX where nothing is scanned, which spares puts the work. */
     uint32_t waiting;
+    /* Whether the table of keys is written whole at the opening, 16 to 32 bytes for each row that there is room for, so that no put
+     * doubles it. Else a put that finds 512, 1,024, 2,048 .. rows takes as long as that takes. */
+    bool wide;
 } sc_opening;
 
 /* The memory of the caller's for the tags of the rows that go. */
@@ -124,7 +127,8 @@ typedef struct sc_stats {
 } sc_stats;
 
 /* What the library exports. Call the functions below, which test for null and for a table that is none. */
-uint32_t shardcache_open(sc_cache *, uint32_t pages, uint32_t rows, uint32_t groups, uint64_t bound, uint32_t waiting);
+uint32_t shardcache_open(sc_cache *, uint32_t pages, uint32_t rows, uint32_t groups, uint64_t bound, uint32_t waiting,
+                         uint32_t wide);
 uint32_t shardcache_put(sc_cache *, uint8_t table, const uint8_t *key, size_t, const uint8_t *value, size_t, uint32_t tag,
                         uint32_t *evicted, size_t, uint64_t *went, bool *replaced);
 uint32_t shardcache_put_pieces(sc_cache *, uint8_t table, const uint8_t *key, size_t, const uint8_t *first, size_t,
@@ -165,7 +169,7 @@ static inline const char *sc_name(int code) {
  * more is left taken than a closed handle keeps: sc_close says what. */
 static inline int sc_open(sc_cache *cache, const sc_opening *with) {
     if (!cache || !with) return SC_NULL;
-    return (int)shardcache_open(cache, with->pages, with->rows, with->groups ? with->groups : 1, with->bound, with->waiting);
+    return (int)shardcache_open(cache, with->pages, with->rows, with->groups ? with->groups : 1, with->bound, with->waiting, with->wide);
 }
 
 /* Stores a row in front of the others; no other row has its key in the table afterwards. One row goes where there is no place for

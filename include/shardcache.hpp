@@ -134,6 +134,7 @@ struct Opening {
     std::uint32_t groups = 1;
     std::uint64_t bound = 0;
     std::uint32_t waiting = 0;
+    bool wide = false;
 };
 
 // A cache, or a closed one. It is opened, used and closed on one thread.
@@ -150,7 +151,7 @@ class Cache {
     ~Cache() { sc_close(&cache_); }
 
     [[nodiscard]] Code open(const Opening &with) noexcept {
-        sc_opening opening{with.pages, with.rows, with.groups, with.bound, with.waiting};
+        sc_opening opening{with.pages, with.rows, with.groups, with.bound, with.waiting, with.wide};
         return Code{sc_open(&cache_, &opening)};
     }
     [[nodiscard]] Code close() noexcept { return Code{sc_close(&cache_)}; }

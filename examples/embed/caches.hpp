@@ -23,8 +23,10 @@ inline std::uint64_t ends_of(const void *value, std::size_t len) {
 
 class Ours {
   public:
-    Ours(std::uint32_t pages, std::uint32_t keys) {
-        if (shardcache::Code code = cache_.open({.pages = pages, .rows = keys, .waiting = UINT32_MAX}); code != shardcache::Code::Done) {
+    // With more pages than those that the bound is for, if any.
+    Ours(std::uint32_t pages, std::uint32_t keys, std::uint32_t more = 0) {
+        shardcache::Opening with{.pages = pages + more, .rows = keys, .bound = SC_MOST_LIVE(pages, 1), .waiting = UINT32_MAX};
+        if (shardcache::Code code = cache_.open(with); code != shardcache::Code::Done) {
             std::fprintf(stderr, "open: %s\n", name(code).data());
             std::exit(1);
         }
@@ -40,6 +42,12 @@ class Ours {
 
   private:
     shardcache::Cache cache_;
+};
+
+// The same with a tenth more pages for as many bytes: compaction moves fewer rows for each segment that it frees.
+class Roomy : public Ours {
+  public:
+    Roomy(std::uint32_t pages, std::uint32_t keys) : Ours(pages, keys, pages / 10 / SC_SEGMENT_PAGES * SC_SEGMENT_PAGES) {}
 };
 
 // What one writes first: a list of rows, the one used last in front, and a map to their places. Rows go as with ours, while more bytes are

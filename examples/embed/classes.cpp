@@ -90,7 +90,7 @@ static int keys_in_order() {
 
 static int rows_in_order() {
     Cache cache;
-    EXPECT(cache.open({.pages = SC_FEWEST_PAGES, .rows = 1000, .waiting = 10}) == Code::Done);
+    EXPECT(cache.open({.pages = SC_FEWEST_PAGES, .rows = 1000, .waiting = 10, .wide = true}) == Code::Done);
     for (std::uint32_t i = 0; i < 100; i++) EXPECT(cache.put({"key " + std::to_string(100 + i), 2}, std::string(i, 'x'), i));
     std::array<std::byte, 200> room;
     Rows rows{room, "key 150", 2};

@@ -1,6 +1,6 @@
 // Times one cache on calls that are drawn ahead. A get that finds nothing is followed by a put of the key, as one reads through a cache.
 //   times CACHE PAGES KEYS VALUE READS CALLS
-// CACHE is ours, map or rocksdb; values have VALUE / 2 to VALUE bytes; READS of a hundred calls are gets. Prints the processor's
+// CACHE is ours, roomy, map or rocksdb; values have VALUE / 2 to VALUE bytes; READS of a hundred calls are gets. Prints the processor's
 // nanoseconds a call, the hits of a hundred gets, and by how many MB the memory grew that the process has.
 #include "caches.hpp"
 
@@ -85,6 +85,8 @@ int main(int words, char **word) {
     std::string_view which = words == 7 ? word[1] : "";
     if (which == "ours")
         time_cache<Ours>("ours", drawn(word));
+    else if (which == "roomy")
+        time_cache<Roomy>("roomy", drawn(word));
     else if (which == "map")
         time_cache<MapWithList>("map", drawn(word));
 #ifdef HAS_ROCKSDB
@@ -92,5 +94,5 @@ int main(int words, char **word) {
         time_cache<RocksCache>("rocksdb", drawn(word));
 #endif
     else
-        return std::fprintf(stderr, "times ours|map|rocksdb PAGES KEYS VALUE READS CALLS\n"), 2;
+        return std::fprintf(stderr, "times ours|roomy|map|rocksdb PAGES KEYS VALUE READS CALLS\n"), 2;
 }

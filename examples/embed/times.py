@@ -17,7 +17,7 @@ sys.path.insert(0, os.path.dirname(HERE))
 from tables import is_over_the_fake, put_table, table  # noqa: E402
 
 PROGRAM = f"{HERE}/{os.environ.get('OUT', 'out')}/plain/times"
-CACHES = ["ours", "map", "rocksdb"]
+CACHES = ["ours", "roomy", "map", "rocksdb"]
 
 # pages, keys, greatest value, gets of a hundred, calls
 LINES = [
@@ -28,7 +28,8 @@ LINES = [
     (16384, 1_000_000, 200, 80, 5_000_000),
 ]
 HEAD = ["Pages, keys, value, gets, calls"]
-HEAD += ["ns a call: ours", "map with list", "RocksDB", "MB: ours", "map", "RocksDB", "Hits: ours", "map", "RocksDB"]
+HEAD += ["ns a call: ours", "a tenth more pages", "map with list", "RocksDB", "MB: ours", "a tenth more", "map", "RocksDB"]
+HEAD += ["Hits: ours", "map", "RocksDB"]
 
 
 def measured(cache, line):
@@ -53,9 +54,12 @@ def row(line, rounds):
             runs[cache].append(measured(cache, line))
     best = [least(runs[cache]) for cache in CACHES]
     told = lambda name, form: [form.format(run[name]) if run else "" for run in best]
+    hits = told("hits", "{:.1f} %")
+    # (with more pages as many are found)
+    del hits[CACHES.index("roomy")]
     pages, keys, value, gets, calls = line
     what = f"{pages:,}, {keys:,}, {value:,}, {gets} %, {calls // 1_000_000} M"
-    return [what, *told("ns", "{:,.0f}"), *told("mb", "{:.1f}"), *told("hits", "{:.1f} %")]
+    return [what, *told("ns", "{:,.0f}"), *told("mb", "{:.1f}"), *hits]
 
 
 def main():

@@ -32,7 +32,7 @@ static int openings(sc_cache *c) {
     with = small;
     with.bound = SC_MOST_LIVE(SC_FEWEST_PAGES, 1) + 1;
     EXPECT(sc_open(c, &with) == SC_BAD_BOUND && sc_close(c) == SC_CLOSED);
-    with = (sc_opening){SC_FEWEST_GROUP_PAGES, 1, 8, SC_MOST_LIVE(SC_FEWEST_GROUP_PAGES, 8), UINT32_MAX};
+    with = (sc_opening){SC_FEWEST_GROUP_PAGES, 1, 8, SC_MOST_LIVE(SC_FEWEST_GROUP_PAGES, 8), UINT32_MAX, true};
     EXPECT(sc_open(c, &with) == SC_DONE && sc_close(c) == SC_DONE);
     EXPECT(sc_open(c, &small) == SC_DONE);
     EXPECT(sc_open(c, &small) == SC_OPEN_ALREADY);

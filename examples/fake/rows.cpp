@@ -75,7 +75,7 @@ using namespace fake;
 
 extern "C" {
 
-uint32_t shardcache_open(sc_cache *handle, uint32_t pages, uint32_t rows, uint32_t groups, uint64_t bound, uint32_t) {
+uint32_t shardcache_open(sc_cache *handle, uint32_t pages, uint32_t rows, uint32_t groups, uint64_t bound, uint32_t, uint32_t) {
     if (handle->state == is_open) return SC_OPEN_ALREADY;
     uint32_t fewest = groups == 1 ? SC_FEWEST_PAGES : SC_FEWEST_GROUP_PAGES;
     if (pages < fewest || pages > SC_MOST_PAGES || pages % SC_SEGMENT_PAGES || (groups != 1 && groups != 8)) return SC_BAD_SIZE;

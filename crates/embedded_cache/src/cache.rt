@@ -17,7 +17,7 @@ mod puts;
 mod scanning;
 
 use crate::key_body::KeyBody;
-use crate::opening::{OpenRefusal, Opening, open_store};
+use crate::opening::{OpenRefusal, Opening, open_store, widen_if};
 use crate::patch::Patch;
 use crate::stats::Stats;
 use crate::storing::Limits;
@@ -99,7 +99,8 @@ impl<'f> Cache<'f> {
         let Ok(body) = KeyBody::new(alloc) else {
             return Err(OpenRefusal { opening, seat });
         };
-        let store = open_store(alloc, opening, home, seat)?;
+        let mut store = open_store(alloc, opening, home, seat)?;
+        widen_if(&mut store, opening.wide);
         Ok(Cache {
             store,
             limits: Limits {

@@ -37,6 +37,9 @@
 //!   it.
 //! - What a cache is opened with has to fit (`CanOpen`): the call asks for it, as others of the kit do, so want of memory is
 //!   the only error, and it carries what was handed in.
+//! - A put that finds half of the slots of the table of keys in use doubles it, and takes as long as that takes. Who can't have
+//!   such a put asks for the table whole at the opening (`Opening::wide`), which takes longer then, and more memory at once. No
+//!   clause sees it, since it changes no answer.
 //! - `peek` reads where a row stands, and may be called under a guard, when no other look-up may: a get writes links of rows.
 //! - A cache is opened over a list that its owner made before. One with a list of its own would have to borrow from itself.
 //!

@@ -1,5 +1,5 @@
 //! What a cache is opened with.
-ghost use Rattle.std.specs.Prelude.{◌≡◌, ◌/◌, ◌≤◌, [], IfOk, IfErr};
+ghost use Rattle.std.specs.Prelude.{◌≡◌, ◌/◌, ◌≤◌, [], false, IfOk, IfErr};
 ghost use Rattle.layout.specs.Sizes.{segment_pages};
 ghost use Rattle.foreign_list.specs.OwnerSeats.{IsAtRest};
 ghost use Rattle.shard_memory.specs.Tickets.{tickets_out};
@@ -32,10 +32,14 @@ pub struct Opening {
     /// The most rows that may wait for their places in the order of keys: a put that finds more brings one of them in, so that no
     /// scan has to sort more than so many. 4,294,967,295 where nothing is scanned, which spares puts the work.
     pub waiting: u32,
+    /// Whether the table of keys is written whole at the opening, 16 to 32 bytes for each row that there is room for, so that no
+    /// put doubles it.
+    pub wide: bool,
 }
 
 impl Opening {
-    /// A shard of so many pages, whose tables share the segments, with the greatest bound; [`MOST_WAITING`] rows may wait.
+    /// A shard of so many pages, whose tables share the segments, with the greatest bound; [`MOST_WAITING`] rows may wait, and the
+    /// table of keys is doubled as rows come.
     pub fn of_pages(shard: u32, pages: u32, rows: u32) -> Opening
         requires { segment_pages ≤ pages }
         ensures { result ≡ record {
@@ -45,6 +49,7 @@ impl Opening {
           regions = 1;
           bound = most_bound pages 1;
           waiting = most_waiting;
+          wide = false;
         } }
     {
         Opening {
@@ -54,6 +59,7 @@ impl Opening {
             regions: 1,
             bound: most_bound(pages, 1),
             waiting: MOST_WAITING,
+            wide: false,
         }
     }
 }
@@ -119,5 +125,14 @@ pub(crate) fn open_store<'f>(
     ) {
         Ok(store) => Ok(store),
         Err(seat) => Err(OpenRefusal { opening, seat }),
+    }
+}
+
+// The table of keys is written whole where that is asked for.
+pub(crate) fn widen_if(store: &mut ShardStore<'_>, wide: bool)
+    ensures unchanged { store.new ≡ store.old }
+{
+    if wide {
+        store.widen();
     }
 }

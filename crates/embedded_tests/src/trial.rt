@@ -55,12 +55,13 @@ impl<'f> Trial<'f> {
             regions: 1,
             bound,
             waiting: WAITING,
+            wide: false,
         };
         let cache = Cache::open(alloc, opening, home, seat)?;
         Ok(Trial { cache })
     }
 
-    // Of 1,536 pages, where the rows of each table have segments of their own.
+    // Of 1,536 pages, where the rows of each table have segments of their own, and the table of keys is written whole.
     pub(super) fn in_tables(
         alloc: Global,
         rows: u32,
@@ -80,6 +81,7 @@ impl<'f> Trial<'f> {
             regions: TABLES,
             bound,
             waiting: WAITING,
+            wide: true,
         };
         let cache = Cache::open(alloc, opening, home, seat)?;
         Ok(Trial { cache })

@@ -82,6 +82,14 @@ impl LazyIndex {
         })
     }
 
+    /// Makes as many slots at once as so many rows as there is room for will want, so that no insertion doubles them. An index
+    /// with rows in its table stays as it is.
+    pub fn widen(&mut self)
+        ensures unchanged { self.new ≡ self.old }
+    {
+        self.table.widen();
+    }
+
     /// How many rows there are. None is there twice, and where their keys are moved it stays the index of these.
     pub fn len(&self) -> u32
         ensures count { result ≡ length (rows_in self.now) }

@@ -9,7 +9,8 @@
 //! elsewhere. So no search passes 64 slots, and no removal moves more rows than that, whatever the keys are.
 //!
 //! The table begins small, and has twice as many slots once half of them are in use; the memory for all of them is reserved
-//! at once. Where a row would find no slot among twice as many, the table has no more slots from then on.
+//! at once. Where a row would find no slot among twice as many, the table has no more slots from then on. A table that is
+//! widened before its first row has all of its slots until it is cleared, and no insertion has to move the others.
 //!
 //! A [`LazyIndex`] is such a table for exact look-up and an ordered index for look-ups in order. The order of keys is kept in
 //! blocks, which learn of a row only once order is asked for: until then it is late, and goes again without a word to the
@@ -31,10 +32,12 @@
 //! - The slots are doubled once half of them are in use: with random keys a run of 64 is so rare then that no row of a million
 //!   was refused. At a greater share some would be, and a single one outside makes each search that finds nothing ask the
 //!   blocks.
+//! - An insertion that doubles the slots moves all rows, and takes as long as that takes. Whoever can't have that calls `widen`
+//!   first, which writes every slot that there will ever be: 16 to 32 bytes for each row that there is room for.
 //! - Doubling can bring two runs together, at the end of the old slots. Where a row would be refused there, the slots stay as
 //!   they are for good; only keys that are chosen for it do that, and what they cost is one search of the blocks for each call.
-//! - No clause speaks of steps. That the walks end after 64 slots is in the code (`REACH`) and in the invariant (`HaveGaps`);
-//!   the refusal's clause says that 63 rows are held at least.
+//! - No clause speaks of steps, nor of how many slots there are, so none sees what `widen` does. That the walks end after 64
+//!   slots is in the code (`REACH`) and in the invariant (`HaveGaps`); the refusal's clause says that 63 rows are held at least.
 //! - A row that waits is always in the table, so a search that finds nothing in the table asks the blocks and never the list of
 //!   late rows. Rows outside stay outside until they go. Rows that wait are sorted by the leads of their keys before the blocks
 //!   get them.

@@ -8,7 +8,7 @@ ghost use Rattle.key_table.specs.Table.{rows_of, vacant_row, AreSame, Has, IsCro
 use crate::entries::{Full, RowAt, Spot};
 use crate::seeking::seek;
 use crate::slots::{REACH, clear, locate, put, take_out};
-use crate::widening::{LEAST, most_of, widen};
+use crate::widening::{LEAST, most_of, widen, widest};
 use key_index::Keys;
 use rows::Key;
 use std::alloc::{AllocError, Global};
@@ -74,6 +74,20 @@ impl KeyTable {
             slots,
             spare,
         })
+    }
+
+    /// Makes as many slots at once as so many rows as there is room for will want, so that no insertion doubles them. A table
+    /// with rows stays as it is.
+    pub fn widen(&mut self)
+        ensures unchanged { self.new ≡ self.old }
+    {
+        if self.count != 0 {
+            return;
+        }
+        let mask = widest(self.mask, self.most);
+        self.slots.clear();
+        clear(&mut self.slots, mask as usize + 1 + REACH);
+        self.mask = mask;
     }
 
     /// How many rows there are. Whoever keeps their keys, where these are moved it stays the table of its rows.

@@ -1,5 +1,5 @@
 //! Slots for more rows.
-ghost use Rattle.std.specs.Prelude.{◌≡◌, ℕ, ◌+◌, ◌<◌, ◌≤◌, [], length, vec_capacity};
+ghost use Rattle.std.specs.Prelude.{◌≡◌, ℕ, ◌+◌, ◌*◌, ◌<◌, ◌≤◌, [], length, vec_capacity};
 ghost use Rattle.key_table.specs.Table.{mask_of, rows_of, reach, AreSame};
 ghost use Rattle.key_table.specs.inside.Slots.{held, AreProbed, Within};
 
@@ -24,6 +24,20 @@ pub(crate) fn most_of(room: u32) -> u32
         most = most * 2 + 1;
     }
     most
+}
+
+/// The greatest of these numbers that is no more than the most: from one on, that doubled, and so on.
+pub(crate) fn widest(mask: u32, most: u32) -> u32
+    requires { mask ≤ most }
+    ensures doubled { (times : ℕ) → mask ≡ mask_of times → (n : ℕ) × (result ≡ mask_of n) }
+    ensures upto { result ≤ most }
+    ensures last { most < result * 2 + 1 }
+{
+    let mut wider = mask;
+    'widening: while u64::from(wider) * 2 + 1 <= u64::from(most) {
+        wider = wider * 2 + 1;
+    }
+    wider
 }
 
 /// Doubles the slots where too many are in use, and answers one less than their number. Where a row would not be put in

@@ -95,6 +95,14 @@ impl RowCache {
         })
     }
 
+    /// Writes all slots at once that the table of keys will want for so many rows as there is room for, so that no put doubles
+    /// it. With rows it stays as it is.
+    pub fn widen(&mut self)
+        ensures unchanged { self.new ≡ self.old }
+    {
+        self.tables.widen();
+    }
+
     /// Stores a row of a table in front of the others, with the number of its put. No other row has its key in the table
     /// afterwards. The new object is placed before an old one is killed.
     ///

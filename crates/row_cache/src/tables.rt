@@ -89,6 +89,13 @@ impl Tables {
         })
     }
 
+    // As many slots at once as the table of keys will want, so that no insertion doubles them. With rows it stays as it is.
+    pub(crate) fn widen(&mut self)
+        ensures unchanged { self.new ≡ self.old }
+    {
+        self.index.widen();
+    }
+
     // No row is left, and no number was given. The memory stays reserved.
     pub(crate) fn clear(&mut self)
         ensures room { self.new.room ≡ self.old.room }

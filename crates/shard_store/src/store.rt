@@ -113,6 +113,14 @@ impl<'f> ShardStore<'f> {
         Ok(ShardStore { memory, cache })
     }
 
+    /// Writes all slots at once that the table of keys will want for so many rows as there is room for, so that no put doubles
+    /// it: 16 to 32 bytes for each. With rows it stays as it is.
+    pub fn widen(&mut self)
+        ensures unchanged { self.new ≡ self.old }
+    {
+        self.cache.widen();
+    }
+
     /// Stores a row of a table, 0 to 7, in front of the others; no other row has its key in the table afterwards. It always stores:
     /// where no room can be made otherwise, the rows that were used longest ago go, one by one, of whatever table, and each is told.
     pub fn put<E: Evictions>(

@@ -2,4 +2,5 @@ mod Closed
 mod LeaseWords
 mod MailboxWords
 mod Opens
+mod Refused
 mod Words

@@ -1,5 +1,5 @@
 -- Shards in which a cache is open.
-use Rattle.std.proofs.Common.{◌≡◌, sym, ap, ◌∙◌, subst}
+use Rattle.std.proofs.Common.{◌≡◌, refl, sym, ap, ◌∙◌, subst}
 use Rattle.std.proofs.Props.{props}
 use Rattle.std.specs.Prelude.{Option, Some}
 use Rattle.std.specs.Coded.{Coded}
@@ -33,3 +33,8 @@ stays shard opened now is lists caches = λ i. record {
 pub held : {kept : Option Shard} {shard now : Shard} {cache : Option EmbeddedState} → kept ≡ Some shard → now ≡ shard → cache_in now ≡ cache
     → cache_of kept ≡ cache
 held kept same is = ap cache_of kept ∙ ap cache_in (sym same) ∙ is
+
+-- and what holds of the one holds of the other
+pub because : {kept : Option Shard} {shard now : Shard} (P : Option EmbeddedState → Type 0) → kept ≡ Some shard → now ≡ shard → P (cache_in now)
+    → P (cache_of kept)
+because P kept same holds = subst P (sym (held kept same refl)) holds

@@ -24,7 +24,7 @@ cache_of None = None
 cache_of (Some shard) = cache_in shard
 
 -- What is asked for at an opening: 0 stands for the greatest bound, and for the usual number of rows that may wait.
-pub record IsAsked (pages rows groups bound waiting : ℕ) (opening : Opening) : Type 0 where
+pub record IsAsked (pages rows groups bound waiting : ℕ) (wide : Bool) (opening : Opening) : Type 0 where
   pub can : CanOpen opening
   pub shard : opening.shard ≡ 0
   pub pages_are : opening.pages ≡ pages
@@ -34,6 +34,7 @@ pub record IsAsked (pages rows groups bound waiting : ℕ) (opening : Opening) :
   pub default : bound ≡ 0 → opening.bound ≡ most_bound pages groups
   pub waits : waiting ≢ 0 → opening.waiting ≡ waiting
   pub waits_as_usual : waiting ≡ 0 → opening.waiting ≡ most_waiting
+  pub wide_is : opening.wide ≡ wide
 
 -- whether a row was replaced
 abbrev pub replaces : Put → Bool

@@ -3,3 +3,4 @@ pub mod Keeping
 pub mod LeaseKeeping
 pub mod Leases
 pub mod MailboxKeeping
+pub mod Refusals

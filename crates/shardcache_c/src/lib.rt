@@ -12,6 +12,7 @@
 //! - A handle keeps a shard, or none (`specs/Handles.antt`); `cache_of` is the cache of a shard that is open.
 //! - `keeps` (`specs/Keeping.antt`) is what a pointer without a type owns: a shard on the heap, and the right to free its
 //!   block.
+//! - `specs/Refusals.antt` says what stands where each code is answered, and which codes each export has.
 //! - A block's handle keeps a lease (`specs/Leases.antt`): a block that is out, what is left of one that came on its list, or
 //!   neither. `Lends` is what a caller is told of a block that is lent.
 //!
@@ -53,10 +54,13 @@
 //!   memory is tested.
 //! - A push that answers `DONE` pushed this message, and a pop popped it; where either refuses, nothing changed
 //!   (`shardcache_queue_push`, `shardcache_queue_try_pop`: `done`, `refused`).
-//! - In no clause: that each bad argument gets its own code, and a good one none (`examples/embed/use.c` and
-//!   `examples/threads/use.c` show it); where the pointer that `shardcache_get` and `shardcache_peek` answer points (the length
-//!   and the tag are the row's by a clause, the bytes by tests); that a C caller keeps to the header, and that an archive
-//!   linked into a program behaves as the proved code does (tried by `make -C examples/embed check`).
+//! - Each export refuses for one of its causes alone, with the code of that cause (`why`, by `specs/Refusals.antt`): so an
+//!   argument that is good in a cache that is open and unguarded is never refused. Want of memory, a full or empty queue and a
+//!   race have codes and no cause that a clause could say.
+//! - In no clause: where the pointer that `shardcache_get` and `shardcache_peek` answer points (the length and the tag are the
+//!   row's by a clause, the bytes by tests); that no put doubles a table of keys which was written whole
+//!   (`examples/embed/newcomers.c` times each put); that a C caller keeps to the header, and that an archive linked into a program
+//!   behaves as the proved code does (tried by `make -C examples/embed check`).
 #![tactic(auto)]
 
 mod bare;

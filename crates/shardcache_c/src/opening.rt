@@ -1,8 +1,9 @@
 //! What a cache can be opened with.
-ghost use Rattle.std.specs.Prelude.{◌≡◌, ◌≢◌, ◌⊎◌, ◌-◌, ◌^◌, ◌<◌, ◌≤◌, true, IfOk, IfErr};
+ghost use Rattle.std.specs.Prelude.{◌≡◌, ◌≢◌, ◌↔◌, ◌⊎◌, ◌-◌, ◌^◌, ◌<◌, ◌≤◌, true, IfOk, IfErr};
 ghost use Rattle.layout.specs.Sizes as sizes;
 ghost use Rattle.embedded_cache.specs.States.{most_waiting};
 ghost use Rattle.shardcache_c.specs.Handles.{IsAsked};
+ghost use Rattle.shardcache_c.specs.Refusals.{RefusesSizes};
 
 use crate::codes::{BAD_BOUND, BAD_SIZE};
 use embedded_cache::{MOST_WAITING, Opening, most_bound};
@@ -16,9 +17,10 @@ pub(crate) fn opening_of(
     groups: u32,
     bound: u64,
     waiting: u32,
+    wide: bool,
 ) -> Result<Opening, u32>
-    ensures asked { IfOk result (IsAsked pages rows groups bound waiting) }
-    ensures code { IfErr result (λ code. code ≢ 0) }
+    ensures asked { IfOk result (IsAsked pages rows groups bound waiting wide) }
+    ensures code { IfErr result (λ code. (code ≢ 0) × RefusesSizes code pages rows groups bound) }
 {
     if !are_pages(pages) {
         return Err(BAD_SIZE);
@@ -40,6 +42,7 @@ pub(crate) fn opening_of(
         regions: groups,
         bound: bound_of(bound, most),
         waiting: waiting_of(waiting),
+        wide,
     })
 }
 
@@ -62,19 +65,19 @@ fn waiting_of(waiting: u32) -> u32
 }
 
 fn are_pages(pages: u32) -> bool
-    ensures { result ≡ true → sizes.ArePages pages }
+    ensures { result ≡ true ↔ sizes.ArePages pages }
 {
     pages >= FEWEST_PAGES && pages <= MOST_PAGES && pages % SEGMENT_PAGES == 0
 }
 
 fn are_rows(rows: u32) -> bool
-    ensures { result ≡ true → (1 ≤ rows) × (rows < 2 ^ 32 - 1) }
+    ensures { result ≡ true ↔ (1 ≤ rows) × (rows < 2 ^ 32 - 1) }
 {
     rows != 0 && rows != u32::MAX
 }
 
 fn are_groups(pages: u32, groups: u32) -> bool
-    ensures { result ≡ true → (groups ≡ 1) ⊎ ((groups ≡ sizes.tables) × (sizes.fewest_table_pages ≤ pages)) }
+    ensures { result ≡ true ↔ (groups ≡ 1) ⊎ ((groups ≡ sizes.tables) × (sizes.fewest_table_pages ≤ pages)) }
 {
     groups == 1 || groups == TABLES && pages >= FEWEST_TABLE_PAGES
 }

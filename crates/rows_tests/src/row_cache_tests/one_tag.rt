@@ -29,7 +29,7 @@ fn key_of(number: u32) -> [u8; 16] {
 
 /// Takes a row of the key, where there is room and the table takes it.
 fn insert(table: &mut KeyTable, key: &[u8], row: u32)
-    requires { row < 200 }
+    requires { row < 5000 }
 {
     if table.len() < table.room() {
         let key = Key {
@@ -54,6 +54,24 @@ fn taken(alloc: Global) -> Result<(u32, u32), AllocError> {
 #[test]
 fn a_table_takes_few_rows_of_one_tag(rt: HostRuntime) -> Result<(), Fail> {
     assert_eq!(rt; taken(rt.alloc())?, (63, 200));
+    Ok(())
+}
+
+/// How many of 5,000 rows a table takes that was widened before them, and how many it has once it is widened behind them.
+fn taken_wide(alloc: Global) -> Result<(u32, u32), AllocError> {
+    let mut table = KeyTable::new(alloc, 5_000)?;
+    table.widen();
+    for row in 0..5_000u32 {
+        insert(&mut table, row.to_le_bytes().as_slice(), row);
+    }
+    let taken = table.len();
+    table.widen();
+    Ok((taken, table.len()))
+}
+
+#[test]
+fn a_wide_table_takes_as_many_rows(rt: HostRuntime) -> Result<(), Fail> {
+    assert_eq!(rt; taken_wide(rt.alloc())?, (5_000, 5_000));
     Ok(())
 }
 

@@ -3,11 +3,13 @@ ghost use Rattle.std.specs.Prelude.{◌≡◌, ◌≢◌, ◌+◌, ◌<◌, ◌�
 ghost use Rattle.layout.specs.Sizes as sizes;
 ghost use Rattle.rows.specs.Key.{in_table};
 ghost use Rattle.foreign_list.specs.Blocks.{Block, raced, spent};
-ghost use Rattle.shard_memory.specs.Tickets.{tickets_out};
+ghost use Rattle.shard_memory.specs.Tickets.{HasIdle, tickets_out};
+ghost use Rattle.shard_memory.specs.declared.share.Share.{Share as Shares};
 ghost use Rattle.embedded_cache.specs.States.{EmbeddedState, IsUnguarded};
 ghost use Rattle.shardcache_c.specs.Handles.{cache_in, cache_of};
 ghost use Rattle.shardcache_c.specs.Leases.{Lends, LendsWithAny};
 ghost use Rattle.shardcache_c.specs.declared.lease.Lease.TheVariants.{Idle, Out, Home};
+ghost use Rattle.shardcache_c.specs.Refusals.{IsClosed, RefusesBlockClosing, RefusesBlockOpening, RefusesLend, RefusesRelease};
 
 use crate::codes::{
     BAD_SIZE, BAD_TABLE, BLOCKS_OUT, CLOSED, DONE, GUARDED, NO_MEMORY, NO_TICKET, OPEN_ALREADY,
@@ -31,6 +33,7 @@ const MOST_HEAD: u32 = 4_384;
 pub extern "C" fn shardcache_block_open(alloc: Global, block: &mut LeaseHandle) -> u32
     ensures done { result ≡ 0 → IsNone block.old.kept.value × (block.new.kept.value ≡ Some Idle) }
     ensures refused { result ≢ 0 → block.new.kept.value ≡ block.old.kept.value }
+    ensures why { result ≢ 0 → RefusesBlockOpening result block.old.kept.value }
 {
     if let Some(lease) = block.take(alloc) {
         block.put(lease);
@@ -66,6 +69,7 @@ pub extern "C" fn shardcache_lend(
     ensures free { result ≡ 0 → (held : Block) → block.old.kept.value ≢ Some (Out held) }
     ensures refused { result ≢ 0 → (handle.new.kept.value ≡ handle.old.kept.value)
         × (block.new.kept.value ≡ block.old.kept.value) }
+    ensures why { result ≢ 0 → RefusesLend result table head block.old.kept.value (cache_of handle.old.kept.value) }
 {
     let Some(mut lease) = block.take(alloc) else {
         return CLOSED;
@@ -99,6 +103,7 @@ fn lend(
         × Lends (in_table table key.now) head lent went.new len.new found.new evicted.old evicted.new old new }
     ensures free { result ≡ 0 → (held : Block) → lease.old ≢ Out held }
     ensures refused { result ≢ 0 → (shard.new ≡ shard.old) × (lease.new ≡ lease.old) }
+    ensures why { result ≢ 0 → RefusesLend result table head (Some lease.old) (cache_in shard.old) }
 {
     if table as u32 >= TABLES {
         return BAD_TABLE;
@@ -136,6 +141,7 @@ fn lend_with_any(
     requires table { table < sizes.tables }
     requires head { (1 ≤ head) × (head + sizes.greatest_value ≤ sizes.greatest_block) }
     requires unguarded { IsUnguarded cache.old }
+    ensures none { IfNone result ((share : Shares) → ¬ HasIdle cache.old.store.lent share) }
     ensures unchanged { IfNone result (cache.new ≡ cache.old) }
     ensures lends { IfSome result (λ lent. LendsWithAny (in_table table key.now) head lent evicted.old evicted.new
         cache.old cache.new) }
@@ -154,6 +160,7 @@ pub extern "C" fn shardcache_release(alloc: Global, block: &mut LeaseHandle) -> 
     ensures raced { result ≡ 17 → (lent : Block) × (found : Option ℕ) × (block.old.kept.value ≡ Some (Out lent))
         × (block.new.kept.value ≡ Some (Out (raced lent found))) }
     ensures refused { result ≢ 0 → result ≢ 17 → block.new.kept.value ≡ block.old.kept.value }
+    ensures why { result ≢ 0 → RefusesRelease result block.old.kept.value }
 {
     let Some(mut lease) = block.take(alloc) else {
         return CLOSED;
@@ -168,6 +175,7 @@ fn release(lease: &mut Lease) -> u32
     ensures raced { result ≡ 17 → (lent : Block) × (found : Option ℕ) × (lease.old ≡ Out lent)
         × (lease.new ≡ Out (raced lent found)) }
     ensures refused { result ≢ 0 → result ≢ 17 → lease.new ≡ lease.old }
+    ensures why { result ≢ 0 → RefusesRelease result (Some lease.old) }
 {
     match mem::replace(lease, Lease::Idle) {
         Lease::Idle => CLOSED,
@@ -200,6 +208,7 @@ pub extern "C" fn shardcache_block_close(alloc: Global, block: &mut LeaseHandle)
     ensures done { result ≡ 0 → block.new.kept.value ≡ None }
     ensures kept { (lent : Block) → block.old.kept.value ≡ Some (Out lent) → block.new.kept.value ≡ block.old.kept.value }
     ensures refused { result ≢ 0 → block.new.kept.value ≡ block.old.kept.value }
+    ensures why { result ≢ 0 → RefusesBlockClosing result block.old.kept.value }
 {
     let Some(lease) = block.take(alloc) else {
         return CLOSED;
@@ -213,7 +222,8 @@ pub extern "C" fn shardcache_block_close(alloc: Global, block: &mut LeaseHandle)
 
 // Whether a block is lent and was not released.
 fn is_out(lease: &Lease) -> bool
-    ensures { (lent : Block) → lease.now ≡ Out lent → result ≡ true }
+    ensures out { (lent : Block) → lease.now ≡ Out lent → result ≡ true }
+    ensures only { result ≡ true → (lent : Block) × (lease.now ≡ Out lent) }
 {
     match lease {
         Lease::Out(_) => true,
@@ -239,6 +249,7 @@ pub extern "C" fn shardcache_take_back(alloc: Global, handle: &mut Handle, block
         × (cache_of handle.new.kept.value ≡ Some new) × (new.store.rows ≡ old.store.rows)
         × (tickets_out new.store.lent + blocks.new ≡ tickets_out old.store.lent) }
     ensures refused { result ≢ 0 → handle.new.kept.value ≡ handle.old.kept.value }
+    ensures why { result ≢ 0 → IsClosed result (cache_of handle.old.kept.value) }
 {
     let Some(mut shard) = handle.take(alloc) else {
         return CLOSED;
@@ -253,6 +264,7 @@ fn take_back(shard: &mut Shard, blocks: &mut u32) -> u32
         × (cache_in shard.new ≡ Some new) × (new.store.rows ≡ old.store.rows)
         × (tickets_out new.store.lent + blocks.new ≡ tickets_out old.store.lent) }
     ensures refused { result ≢ 0 → shard.new ≡ shard.old }
+    ensures why { result ≢ 0 → IsClosed result (cache_in shard.old) }
 {
     let Some(opened) = &mut shard.opened else {
         return CLOSED;

@@ -4,6 +4,7 @@ ghost use Rattle.regions.specs.Shapes.{guards_of};
 ghost use Rattle.shard_store.specs.Stores.{group_for, with_guards};
 ghost use Rattle.embedded_cache.specs.States.{EmbeddedState};
 ghost use Rattle.shardcache_c.specs.Handles.{cache_in, cache_of};
+ghost use Rattle.shardcache_c.specs.Refusals.{RefusesCompaction, RefusesGuard, RefusesUnguard};
 
 use crate::codes::{BAD_TABLE, CLOSED, DONE, GUARDED, UNGUARDED};
 use crate::handle::Handle;
@@ -23,6 +24,7 @@ pub extern "C" fn shardcache_guard(alloc: Global, handle: &mut Handle, table: u8
         × (cache_of handle.new.kept.value ≡ Some new) × (new.store ≡ with_guards old.store (group_for old.store table)
         (guards_of old.store.region (group_for old.store table) + 1)) }
     ensures refused { result ≢ 0 → handle.new.kept.value ≡ handle.old.kept.value }
+    ensures why { result ≢ 0 → RefusesGuard result table (cache_of handle.old.kept.value) }
 {
     let Some(mut shard) = handle.take(alloc) else {
         return CLOSED;
@@ -37,6 +39,7 @@ fn guard(shard: &mut Shard, table: u8) -> u32
         × (cache_in shard.new ≡ Some new) × (new.store ≡ with_guards old.store (group_for old.store table)
         (guards_of old.store.region (group_for old.store table) + 1)) }
     ensures refused { result ≢ 0 → shard.new ≡ shard.old }
+    ensures why { result ≢ 0 → RefusesGuard result table (cache_in shard.old) }
 {
     if table as u32 >= TABLES {
         return BAD_TABLE;
@@ -58,6 +61,7 @@ pub extern "C" fn shardcache_unguard(alloc: Global, handle: &mut Handle, table: 
         × (cache_of handle.new.kept.value ≡ Some new) × (new.store ≡ with_guards old.store (group_for old.store table)
         (guards_of old.store.region (group_for old.store table) - 1)) × (1 ≤ guards_of old.store.region (group_for old.store table)) }
     ensures refused { result ≢ 0 → handle.new.kept.value ≡ handle.old.kept.value }
+    ensures why { result ≢ 0 → RefusesUnguard result table (cache_of handle.old.kept.value) }
 {
     let Some(mut shard) = handle.take(alloc) else {
         return CLOSED;
@@ -72,6 +76,7 @@ fn unguard(shard: &mut Shard, table: u8) -> u32
         × (cache_in shard.new ≡ Some new) × (new.store ≡ with_guards old.store (group_for old.store table)
         (guards_of old.store.region (group_for old.store table) - 1)) × (1 ≤ guards_of old.store.region (group_for old.store table)) }
     ensures refused { result ≢ 0 → shard.new ≡ shard.old }
+    ensures why { result ≢ 0 → RefusesUnguard result table (cache_in shard.old) }
 {
     if table as u32 >= TABLES {
         return BAD_TABLE;
@@ -92,6 +97,7 @@ pub extern "C" fn shardcache_compact(alloc: Global, handle: &mut Handle) -> u32
     ensures done { result ≡ 0 → (old : EmbeddedState) × (new : EmbeddedState) × (cache_of handle.old.kept.value ≡ Some old)
         × (cache_of handle.new.kept.value ≡ Some new) × (new.store.rows ≡ old.store.rows) }
     ensures refused { result ≢ 0 → handle.new.kept.value ≡ handle.old.kept.value }
+    ensures why { result ≢ 0 → RefusesCompaction result (cache_of handle.old.kept.value) }
 {
     let Some(mut shard) = handle.take(alloc) else {
         return CLOSED;
@@ -105,6 +111,7 @@ fn compact(shard: &mut Shard) -> u32
     ensures done { result ≡ 0 → (old : EmbeddedState) × (new : EmbeddedState) × (cache_in shard.old ≡ Some old)
         × (cache_in shard.new ≡ Some new) × (new.store.rows ≡ old.store.rows) }
     ensures refused { result ≢ 0 → shard.new ≡ shard.old }
+    ensures why { result ≢ 0 → RefusesCompaction result (cache_in shard.old) }
 {
     let Some(opened) = &mut shard.opened else {
         return CLOSED;

@@ -6,6 +6,7 @@ ghost use Rattle.rows.specs.Row.{Row};
 ghost use Rattle.rows.specs.Apply as apply;
 ghost use Rattle.embedded_cache.specs.States.{EmbeddedState, IsSameCache, IsUnguarded};
 ghost use Rattle.shardcache_c.specs.Handles.{cache_in, cache_of};
+ghost use Rattle.shardcache_c.specs.Refusals.{RefusesGet, RefusesPeek, RefusesRead};
 
 use crate::codes::{BAD_TABLE, CLOSED, DONE, GUARDED, MISSING, SHORT};
 use crate::handle::Handle;
@@ -32,6 +33,7 @@ pub extern "C" fn shardcache_get(
     ensures missing { result ≡ 9 → (old : EmbeddedState) × (cache_of handle.old.kept.value ≡ Some old)
         × (apply.row_of (in_table table key.now) old.store.rows ≡ None) }
     ensures refused { result ≢ 0 → result ≢ 9 → handle.new.kept.value ≡ handle.old.kept.value }
+    ensures why { result ≢ 0 → RefusesGet result table key.now (cache_of handle.old.kept.value) }
 {
     let Some(mut shard) = handle.take(alloc) else {
         return CLOSED;
@@ -56,6 +58,7 @@ fn get(
     ensures missing { result ≡ 9 → (old : EmbeddedState) × (cache_in shard.old ≡ Some old)
         × (apply.row_of (in_table table key.now) old.store.rows ≡ None) }
     ensures refused { result ≢ 0 → result ≢ 9 → shard.new ≡ shard.old }
+    ensures why { result ≢ 0 → RefusesGet result table key.now (cache_in shard.old) }
 {
     if table as u32 >= TABLES {
         return BAD_TABLE;
@@ -118,6 +121,7 @@ pub extern "C" fn shardcache_peek(
     ensures missing { result ≡ 9 → (old : EmbeddedState) × (cache_of handle.old.kept.value ≡ Some old)
         × (apply.row_of (in_table table key.now) old.store.rows ≡ None) }
     ensures unchanged { handle.new.kept.value ≡ handle.old.kept.value }
+    ensures why { result ≢ 0 → RefusesPeek result table key.now (cache_of handle.old.kept.value) }
 {
     let Some(shard) = handle.take(alloc) else {
         return CLOSED;
@@ -140,6 +144,7 @@ fn peek(
         × (tag.new ≡ row.number) }
     ensures missing { result ≡ 9 → (old : EmbeddedState) × (cache_in shard.now ≡ Some old)
         × (apply.row_of (in_table table key.now) old.store.rows ≡ None) }
+    ensures why { result ≢ 0 → RefusesPeek result table key.now (cache_in shard.now) }
 {
     if table as u32 >= TABLES {
         return BAD_TABLE;
@@ -180,6 +185,7 @@ pub extern "C" fn shardcache_read(
     ensures missing { result ≡ 9 → (old : EmbeddedState) × (cache_of handle.old.kept.value ≡ Some old)
         × (apply.row_of (in_table table key.now) old.store.rows ≡ None) }
     ensures refused { result ≢ 0 → result ≢ 8 → result ≢ 9 → handle.new.kept.value ≡ handle.old.kept.value }
+    ensures why { result ≢ 0 → RefusesRead result table key.now (length into.old) (cache_of handle.old.kept.value) }
 {
     let Some(mut shard) = handle.take(alloc) else {
         return CLOSED;
@@ -207,6 +213,7 @@ fn read(
     ensures missing { result ≡ 9 → (old : EmbeddedState) × (cache_in shard.old ≡ Some old)
         × (apply.row_of (in_table table key.now) old.store.rows ≡ None) }
     ensures refused { result ≢ 0 → result ≢ 8 → result ≢ 9 → shard.new ≡ shard.old }
+    ensures why { result ≢ 0 → RefusesRead result table key.now (length into.old) (cache_in shard.old) }
 {
     if table as u32 >= TABLES {
         return BAD_TABLE;
@@ -239,6 +246,7 @@ fn copy(
     ensures others { result ≢ 0 → result ≢ 8 → result ≡ 9 }
     ensures rows { cache.new.store.rows ≡ (apply.get (in_table table key.now) cache.old.store.rows).0 }
     ensures same { IsSameCache cache.old cache.new }
+    ensures why { result ≢ 0 → RefusesRead result table key.now (length into.old) (Some cache.old) }
 {
     let Some((value, number)) = cache.get(table, key) else {
         return MISSING;

@@ -1,7 +1,8 @@
 //! How a handle is opened and closed.
-ghost use Rattle.std.specs.Prelude.{◌≡◌, ◌≢◌, [], None, Some, IfSome, MatchOption};
+ghost use Rattle.std.specs.Prelude.{◌≡◌, ◌≢◌, [], None, Some, IfSome, MatchOption, ◌⊎◌, IsSome};
 ghost use Rattle.embedded_cache.specs.States.{CanOpen, EmbeddedState, most_bound};
 ghost use Rattle.shardcache_c.specs.Handles.{cache_in, cache_of};
+ghost use Rattle.shardcache_c.specs.Refusals.{RefusesClosing, RefusesOpening};
 
 use crate::codes::{BLOCKS_OUT, CLOSED, DONE, GUARDED, NO_MEMORY, OPEN_ALREADY};
 use crate::handle::Handle;
@@ -12,7 +13,8 @@ use std::alloc::Global;
 
 /// Opens a cache of so many pages with room for so many rows, whose tables share the segments where `groups` is 1, and have
 /// segments of their own where it is 8. Rows go while more bytes are live than the bound, where 0 stands for the greatest one. So many
-/// rows may wait for their places in the order of keys, where 0 stands for 1,024.
+/// rows may wait for their places in the order of keys, where 0 stands for 1,024. The table of keys is written whole where `wide` is
+/// not 0, so that no put doubles it.
 #[unsafe(no_mangle)]
 pub extern "C" fn shardcache_open(
     alloc: Global,
@@ -22,14 +24,16 @@ pub extern "C" fn shardcache_open(
     groups: u32,
     bound: u64,
     waiting: u32,
+    wide: u32,
 ) -> u32
     ensures done { result ≡ 0 → (cache : EmbeddedState) × (cache_of handle.new.kept.value ≡ Some cache) × (cache.store.rows ≡ [])
         × (cache.store.pages ≡ pages) × (cache.store.room ≡ rows) × (cache.store.regions ≡ groups)
         × (bound ≢ 0 → cache.bound ≡ bound) × (bound ≡ 0 → cache.bound ≡ most_bound pages groups) }
     ensures closed { result ≡ 0 → cache_of handle.old.kept.value ≡ None }
     ensures refused { result ≢ 0 → cache_of handle.new.kept.value ≡ cache_of handle.old.kept.value }
+    ensures why { result ≢ 0 → RefusesOpening result pages rows groups bound (cache_of handle.old.kept.value) }
 {
-    let opening = match opening_of(pages, rows, groups, bound, waiting) {
+    let opening = match opening_of(pages, rows, groups, bound, waiting, wide != 0) {
         Ok(opening) => opening,
         Err(code) => return code,
     };
@@ -76,6 +80,7 @@ fn open(alloc: Global, shard: &mut Shard, opening: Opening) -> u32
         × (cache.bound ≡ opening.bound) }
     ensures closed { result ≡ 0 → cache_in shard.old ≡ None }
     ensures refused { result ≢ 0 → cache_in shard.new ≡ cache_in shard.old }
+    ensures why { result ≢ 0 → ((result ≡ 2) × IsSome (cache_in shard.old)) ⊎ (result ≡ 4) }
 {
     if shard.opened.is_some() {
         return OPEN_ALREADY;
@@ -110,6 +115,7 @@ fn home_of(alloc: Global, shard: &mut Shard) -> Option<Home>
 pub extern "C" fn shardcache_close(alloc: Global, handle: &mut Handle) -> u32
     ensures done { result ≡ 0 → cache_of handle.new.kept.value ≡ None }
     ensures refused { result ≢ 0 → cache_of handle.new.kept.value ≡ cache_of handle.old.kept.value }
+    ensures why { result ≢ 0 → RefusesClosing result (cache_of handle.old.kept.value) }
 {
     let Some(mut shard) = handle.take(alloc) else {
         return CLOSED;
@@ -122,6 +128,7 @@ pub extern "C" fn shardcache_close(alloc: Global, handle: &mut Handle) -> u32
 fn close(shard: &mut Shard) -> u32
     ensures done { result ≡ 0 → cache_in shard.new ≡ None }
     ensures refused { result ≢ 0 → cache_in shard.new ≡ cache_in shard.old }
+    ensures why { result ≢ 0 → RefusesClosing result (cache_in shard.old) }
 {
     let Some(opened) = shard.opened.take() else {
         return CLOSED;

@@ -1,6 +1,7 @@
 //! Mailboxes, over which threads send each other messages.
-ghost use Rattle.std.specs.Prelude.{◌≡◌, ◌≢◌, None, Some, IsNone, IfSome};
+ghost use Rattle.std.specs.Prelude.{◌≡◌, ◌≢◌, None, Some, IsNone, IfSome, ◌⊎◌};
 ghost use Rattle.mailbox.specs.Messages.{Messages, unused, with_popped, with_pushed};
+ghost use Rattle.shardcache_c.specs.Refusals.{RefusesPop, RefusesPush, RefusesQueueClosing, RefusesQueueOpening, RefusesShare};
 
 use crate::codes::{BAD_SIZE, CLOSED, DONE, EMPTY, FULL, NO_MEMORY, OPEN_ALREADY, RACED};
 use crate::mailbox_handle::MailboxHandle;
@@ -17,6 +18,7 @@ pub extern "C" fn shardcache_queue_open(
     ensures done { result ≡ 0 → IsNone queue.old.kept.value × (opened : Messages) × (queue.new.kept.value ≡ Some opened)
         × (opened ≡ unused opened.queue) }
     ensures refused { result ≢ 0 → queue.new.kept.value ≡ queue.old.kept.value }
+    ensures why { result ≢ 0 → RefusesQueueOpening result places queue.old.kept.value }
 {
     if places == 0 {
         return BAD_SIZE;
@@ -46,6 +48,7 @@ pub extern "C" fn shardcache_queue_share(
         × (other.new.kept.value ≡ Some (unused shared.queue)) }
     ensures unchanged { queue.new.kept.value ≡ queue.old.kept.value }
     ensures refused { result ≢ 0 → other.new.kept.value ≡ other.old.kept.value }
+    ensures why { result ≢ 0 → RefusesShare result queue.old.kept.value other.old.kept.value }
 {
     if let Some(mailbox) = other.take(alloc) {
         other.put(mailbox);
@@ -87,6 +90,7 @@ pub extern "C" fn shardcache_queue_push(
     ensures done { result ≡ 0 → (old : Messages) × (queue.old.kept.value ≡ Some old)
         × (queue.new.kept.value ≡ Some (with_pushed old message)) }
     ensures refused { result ≢ 0 → queue.new.kept.value ≡ queue.old.kept.value }
+    ensures why { result ≢ 0 → RefusesPush result queue.old.kept.value }
 {
     let Some(mut mailbox) = queue.take(alloc) else {
         return CLOSED;
@@ -99,6 +103,7 @@ pub extern "C" fn shardcache_queue_push(
 fn push_one(mailbox: &mut Mailbox, message: u64) -> u32
     ensures done { result ≡ 0 → mailbox.new ≡ with_pushed mailbox.old message }
     ensures refused { result ≢ 0 → mailbox.new ≡ mailbox.old }
+    ensures why { result ≢ 0 → (result ≡ 18) ⊎ (result ≡ 17) }
 {
     match mailbox.try_push(message) {
         Push::Pushed => DONE,
@@ -117,6 +122,7 @@ pub extern "C" fn shardcache_queue_try_pop(
     ensures done { result ≡ 0 → (old : Messages) × (queue.old.kept.value ≡ Some old)
         × (queue.new.kept.value ≡ Some (with_popped old message.new)) }
     ensures refused { result ≢ 0 → (queue.new.kept.value ≡ queue.old.kept.value) × (message.new ≡ message.old) }
+    ensures why { result ≢ 0 → RefusesPop result queue.old.kept.value }
 {
     let Some(mut mailbox) = queue.take(alloc) else {
         return CLOSED;
@@ -129,6 +135,7 @@ pub extern "C" fn shardcache_queue_try_pop(
 fn pop_one(mailbox: &mut Mailbox, message: &mut u64) -> u32
     ensures done { result ≡ 0 → mailbox.new ≡ with_popped mailbox.old message.new }
     ensures refused { result ≢ 0 → (mailbox.new ≡ mailbox.old) × (message.new ≡ message.old) }
+    ensures why { result ≢ 0 → (result ≡ 19) ⊎ (result ≡ 17) }
 {
     match mailbox.try_pop() {
         Pop::Popped(popped) => {
@@ -145,6 +152,7 @@ fn pop_one(mailbox: &mut Mailbox, message: &mut u64) -> u32
 pub extern "C" fn shardcache_queue_close(alloc: Global, queue: &mut MailboxHandle) -> u32
     ensures done { result ≡ 0 → queue.new.kept.value ≡ None }
     ensures refused { result ≢ 0 → queue.new.kept.value ≡ queue.old.kept.value }
+    ensures why { result ≢ 0 → RefusesQueueClosing result queue.old.kept.value }
 {
     match queue.take(alloc) {
         Some(_) => DONE,

@@ -1,11 +1,12 @@
 //! Keys in their order, and rows in the order of their keys.
-ghost use Rattle.std.specs.Prelude.{◌≡◌, Some, length, take};
+ghost use Rattle.std.specs.Prelude.{◌≡◌, Some, length, take, ◌≢◌};
 ghost use Rattle.rows.specs.Key.{in_table};
 ghost use Rattle.rows.specs.KeyBody.{AreKeys};
 ghost use Rattle.rows.specs.Apply as apply;
 ghost use Rattle.embedded_cache.specs.Scans.{WritesRows};
 ghost use Rattle.embedded_cache.specs.States.{EmbeddedState};
 ghost use Rattle.shardcache_c.specs.Handles.{cache_in, cache_of};
+ghost use Rattle.shardcache_c.specs.Refusals.{RefusesKeys, RefusesRows};
 
 use crate::codes::{BAD_COUNT, BAD_TABLE, CLOSED, DONE, GUARDED, SHORT};
 use crate::handle::Handle;
@@ -36,6 +37,7 @@ pub extern "C" fn shardcache_scan(
         × (did.new.keys ≡ length (apply.scanned (in_table table from.now) count old.store.rows))
         × AreKeys (take did.new.bytes into.new) (apply.scanned (in_table table from.now) count old.store.rows) }
     ensures unchanged { handle.new.kept.value ≡ handle.old.kept.value }
+    ensures why { result ≢ 0 → RefusesKeys result table count (length into.old) (cache_of handle.old.kept.value) }
 {
     let Some(mut shard) = handle.take(alloc) else {
         return CLOSED;
@@ -57,6 +59,7 @@ fn scan_keys(
         × (did.new.keys ≡ length (apply.scanned (in_table table from.now) count old.store.rows))
         × AreKeys (take did.new.bytes into.new) (apply.scanned (in_table table from.now) count old.store.rows) }
     ensures unchanged { shard.new ≡ shard.old }
+    ensures why { result ≢ 0 → RefusesKeys result table count (length into.old) (cache_in shard.old) }
 {
     if table as u32 >= TABLES {
         return BAD_TABLE;
@@ -106,6 +109,7 @@ pub extern "C" fn shardcache_scan_rows(
         × WritesRows table (apply.scanned (in_table table from.now) count old.store.rows) old.store.rows did.new.rows did.new.bytes
         did.new.wanted into.old into.new }
     ensures unchanged { handle.new.kept.value ≡ handle.old.kept.value }
+    ensures why { result ≢ 0 → RefusesRows result table count (cache_of handle.old.kept.value) }
 {
     let Some(mut shard) = handle.take(alloc) else {
         return CLOSED;
@@ -127,6 +131,7 @@ fn scan_rows(
         × WritesRows table (apply.scanned (in_table table from.now) count old.store.rows) old.store.rows did.new.rows did.new.bytes
         did.new.wanted into.old into.new }
     ensures unchanged { shard.new ≡ shard.old }
+    ensures why { result ≢ 0 → RefusesRows result table count (cache_in shard.old) }
 {
     if table as u32 >= TABLES {
         return BAD_TABLE;

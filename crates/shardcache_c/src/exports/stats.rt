@@ -1,8 +1,9 @@
 //! What a cache tells of itself.
-ghost use Rattle.std.specs.Prelude.{◌≡◌, Some, length};
+ghost use Rattle.std.specs.Prelude.{◌≡◌, Some, length, ◌≢◌};
 ghost use Rattle.rows.specs.Row.{live};
 ghost use Rattle.embedded_cache.specs.States.{EmbeddedState};
 ghost use Rattle.shardcache_c.specs.Handles.{cache_in, cache_of};
+ghost use Rattle.shardcache_c.specs.Refusals.{IsClosed};
 
 use crate::codes::{CLOSED, DONE};
 use crate::handle::Handle;
@@ -32,6 +33,7 @@ pub extern "C" fn shardcache_stats(alloc: Global, handle: &mut Handle, stats: &m
         × (stats.new.rows ≡ length old.store.rows) × (stats.new.live_bytes ≡ live old.store.rows) × (stats.new.bound ≡ old.bound)
         × (stats.new.evictions ≡ old.evictions) × (stats.new.gets ≡ old.gets) × (stats.new.hits ≡ old.hits) }
     ensures unchanged { handle.new.kept.value ≡ handle.old.kept.value }
+    ensures why { result ≢ 0 → IsClosed result (cache_of handle.old.kept.value) }
 {
     let Some(shard) = handle.take(alloc) else {
         return CLOSED;
@@ -45,6 +47,7 @@ fn tell(shard: &Shard, stats: &mut Stats) -> u32
     ensures done { result ≡ 0 → (old : EmbeddedState) × (cache_in shard.now ≡ Some old)
         × (stats.new.rows ≡ length old.store.rows) × (stats.new.live_bytes ≡ live old.store.rows) × (stats.new.bound ≡ old.bound)
         × (stats.new.evictions ≡ old.evictions) × (stats.new.gets ≡ old.gets) × (stats.new.hits ≡ old.hits) }
+    ensures why { result ≢ 0 → IsClosed result (cache_in shard.now) }
 {
     let Some(opened) = &shard.opened else {
         return CLOSED;

@@ -1,10 +1,11 @@
 //! Rows that are stored, written over in place and removed.
-ghost use Rattle.std.specs.Prelude.{◌≡◌, ◌≢◌, ◌++◌, true, Some};
+ghost use Rattle.std.specs.Prelude.{◌≡◌, ◌≢◌, ◌++◌, true, Some, length, ◌+◌};
 ghost use Rattle.rows.specs.Key.{in_table};
 ghost use Rattle.rows.specs.Apply as apply;
 ghost use Rattle.row_bytes.specs.Patches as patches;
 ghost use Rattle.embedded_cache.specs.States.{EmbeddedState};
 ghost use Rattle.shardcache_c.specs.Handles.{Stores, cache_in, cache_of, replaces};
+ghost use Rattle.shardcache_c.specs.Refusals.{RefusesGet, RefusesPatch, RefusesPut};
 
 use crate::codes::{BAD_KEY, BAD_TABLE, BAD_VALUE, CLOSED, DONE, GUARDED, MISSING, SHORT};
 use crate::handle::Handle;
@@ -32,6 +33,7 @@ pub extern "C" fn shardcache_put(
         × (cache_of handle.new.kept.value ≡ Some new)
         × Stores (in_table table key.now) value.now tag went.new replaced.new evicted.old evicted.new old new }
     ensures refused { result ≢ 0 → handle.new.kept.value ≡ handle.old.kept.value }
+    ensures why { result ≢ 0 → RefusesPut result table key.now (length value.now) (cache_of handle.old.kept.value) }
 {
     let Some(mut shard) = handle.take(alloc) else {
         return CLOSED;
@@ -55,6 +57,7 @@ fn put(
         × (cache_in shard.new ≡ Some new)
         × Stores (in_table table key.now) value.now tag went.new replaced.new evicted.old evicted.new old new }
     ensures refused { result ≢ 0 → shard.new ≡ shard.old }
+    ensures why { result ≢ 0 → RefusesPut result table key.now (length value.now) (cache_in shard.old) }
 {
     if table as u32 >= TABLES {
         return BAD_TABLE;
@@ -104,6 +107,7 @@ pub extern "C" fn shardcache_put_pieces(
         × (cache_of handle.new.kept.value ≡ Some new)
         × Stores (in_table table key.now) (first.now ++ second.now) tag went.new replaced.new evicted.old evicted.new old new }
     ensures refused { result ≢ 0 → handle.new.kept.value ≡ handle.old.kept.value }
+    ensures why { result ≢ 0 → RefusesPut result table key.now (length first.now + length second.now) (cache_of handle.old.kept.value) }
 {
     let Some(mut shard) = handle.take(alloc) else {
         return CLOSED;
@@ -130,6 +134,7 @@ fn put_pieces(
         × (cache_in shard.new ≡ Some new)
         × Stores (in_table table key.now) (first.now ++ second.now) tag went.new replaced.new evicted.old evicted.new old new }
     ensures refused { result ≢ 0 → shard.new ≡ shard.old }
+    ensures why { result ≢ 0 → RefusesPut result table key.now (length first.now + length second.now) (cache_in shard.old) }
 {
     if table as u32 >= TABLES {
         return BAD_TABLE;
@@ -169,6 +174,7 @@ pub extern "C" fn shardcache_patch(
         × (cache_of handle.new.kept.value ≡ Some new)
         × (new.store.rows ≡ patches.patch (in_table table key.now) at bytes.now old.store.rows) }
     ensures refused { result ≢ 0 → handle.new.kept.value ≡ handle.old.kept.value }
+    ensures why { result ≢ 0 → RefusesPatch result table key.now (at + length bytes.now) (cache_of handle.old.kept.value) }
 {
     let Some(mut shard) = handle.take(alloc) else {
         return CLOSED;
@@ -182,6 +188,7 @@ fn patch(shard: &mut Shard, table: u8, key: &[u8], at: usize, bytes: &[u8]) -> u
     ensures done { result ≡ 0 → (old : EmbeddedState) × (new : EmbeddedState) × (cache_in shard.old ≡ Some old)
         × (cache_in shard.new ≡ Some new) × (new.store.rows ≡ patches.patch (in_table table key.now) at bytes.now old.store.rows) }
     ensures refused { result ≢ 0 → shard.new ≡ shard.old }
+    ensures why { result ≢ 0 → RefusesPatch result table key.now (at + length bytes.now) (cache_in shard.old) }
 {
     if table as u32 >= TABLES {
         return BAD_TABLE;
@@ -206,6 +213,7 @@ pub extern "C" fn shardcache_erase(alloc: Global, handle: &mut Handle, table: u8
         × (cache_of handle.new.kept.value ≡ Some new) × (apply.has (in_table table key.now) old.store.rows ≡ true)
         × (new.store.rows ≡ apply.without (in_table table key.now) old.store.rows) }
     ensures refused { result ≢ 0 → result ≢ 9 → handle.new.kept.value ≡ handle.old.kept.value }
+    ensures why { result ≢ 0 → RefusesGet result table key.now (cache_of handle.old.kept.value) }
 {
     let Some(mut shard) = handle.take(alloc) else {
         return CLOSED;
@@ -220,6 +228,7 @@ fn erase(shard: &mut Shard, table: u8, key: &[u8]) -> u32
         × (cache_in shard.new ≡ Some new) × (apply.has (in_table table key.now) old.store.rows ≡ true)
         × (new.store.rows ≡ apply.without (in_table table key.now) old.store.rows) }
     ensures refused { result ≢ 0 → result ≢ 9 → shard.new ≡ shard.old }
+    ensures why { result ≢ 0 → RefusesGet result table key.now (cache_in shard.old) }
 {
     if table as u32 >= TABLES {
         return BAD_TABLE;

@@ -1,4 +1,4 @@
-use Rattle.std.proofs.Common.{refl, ap}
+use Rattle.std.proofs.Common.{refl, ap, inr}
 use Rattle.shardcache_c.specs.Handles.{cache_over}
 use Rattle.shardcache_c.proofs.Opens.{stays}
 use Rattle.shardcache_c.proofs.exports.guards.compact.Goals as goal
@@ -11,4 +11,9 @@ pub returns-in_default-compact : goal.returns-in_default-compact
 returns-in_default-compact c = record {
   done = λ done. (c.in-Some.opened.cache, c.compact.new.self, ap cache_over c.in-Some.is, refl, c.compact.ensures.rows);
   refused = λ not. absurd (not refl);
+  why = λ not. absurd (not refl);
 }
+
+pub returns-in-Guarded-clause-why : goal.returns-in-Guarded-clause-why
+returns-in-Guarded-clause-why c = λ no.
+    inr (refl, c.in-Some.opened.cache, ap cache_over c.in-Some.is, c.compact.ensures.guarded.0 c.in-Guarded.is)

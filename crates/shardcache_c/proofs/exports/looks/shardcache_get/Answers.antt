@@ -1,6 +1,7 @@
 use Rattle.std.proofs.Common.{ap, ◌∙◌}
 use Rattle.shardcache_c.specs.Handles.{cache_of}
-use Rattle.shardcache_c.proofs.Opens.{held}
+use Rattle.shardcache_c.specs.Refusals.{RefusesGet}
+use Rattle.shardcache_c.proofs.Opens.{because, held}
 use Rattle.shardcache_c.proofs.exports.looks.shardcache_get.Goals as goal
 
 pub returns-clause-found : goal.returns-clause-found
@@ -10,3 +11,7 @@ returns-clause-found c = λ found. let did = c.get-code.ensures.found found in
 pub returns-clause-missing : goal.returns-clause-missing
 returns-clause-missing c = λ missing. let did = c.get-code.ensures.missing missing in
     (did.0, held c.in-Some.ensures.taken.0 c.deref_mut.ensures.value did.1, did.2)
+
+pub returns-clause-why : goal.returns-clause-why
+returns-clause-why c = λ no.
+    because (RefusesGet c.get-code.result c.args.table c.args.key.now) c.in-Some.ensures.taken.0 c.deref_mut.ensures.value (c.get-code.ensures.why no)

@@ -1,6 +1,7 @@
-use Rattle.std.proofs.Common.{ap, ◌∙◌}
+use Rattle.std.proofs.Common.{ap, ◌∙◌, length}
 use Rattle.shardcache_c.specs.Handles.{cache_of}
-use Rattle.shardcache_c.proofs.Opens.{held}
+use Rattle.shardcache_c.specs.Refusals.{RefusesRead}
+use Rattle.shardcache_c.proofs.Opens.{because, held}
 use Rattle.shardcache_c.proofs.exports.looks.shardcache_read.Goals as goal
 
 pub returns-clause-done : goal.returns-clause-done
@@ -14,3 +15,7 @@ returns-clause-short c = λ short. let did = c.read-code.ensures.short short in
 pub returns-clause-missing : goal.returns-clause-missing
 returns-clause-missing c = λ missing. let did = c.read-code.ensures.missing missing in
     (did.0, held c.in-Some.ensures.taken.0 c.deref_mut.ensures.value did.1, did.2)
+
+pub returns-clause-why : goal.returns-clause-why
+returns-clause-why c = λ no.
+    because (RefusesRead c.read-code.result c.args.table c.args.key.now (length c.args.into.now)) c.in-Some.ensures.taken.0 c.deref_mut.ensures.value (c.read-code.ensures.why no)

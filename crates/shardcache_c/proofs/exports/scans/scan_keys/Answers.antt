@@ -1,6 +1,7 @@
-use Rattle.std.proofs.Common.{refl, ap}
+use Rattle.std.proofs.Common.{refl, ap, inr}
 use Rattle.shardcache_c.specs.Handles.{cache_over}
 use Rattle.shardcache_c.proofs.Opens.{stays}
+use Rattle.shardcache_c.proofs.Refused.{guarded}
 use Rattle.shardcache_c.proofs.exports.scans.scan_keys.Goals as goal
 
 pub returns-clause-done : goal.returns-clause-done
@@ -9,3 +10,6 @@ returns-clause-done c = λ done.
 
 pub returns-clause-unchanged : goal.returns-clause-unchanged
 returns-clause-unchanged c = stays c.args.shard.now c.in-Some.opened _ c.in-Some.is refl c.scan-scanned.ensures.unchanged
+
+pub returns-then-is_guarded-clause-why : goal.returns-then-is_guarded-clause-why
+returns-then-is_guarded-clause-why c = λ no. inr (inr (inr (inr (guarded c.args.shard.now c.in-Some.is c.is_guarded.ensures c.if-is_guarded.true))))

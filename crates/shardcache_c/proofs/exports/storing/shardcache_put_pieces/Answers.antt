@@ -1,8 +1,13 @@
-use Rattle.std.proofs.Common.{ap, ◌∙◌}
+use Rattle.std.proofs.Common.{ap, ◌∙◌, length, ◌+◌}
 use Rattle.shardcache_c.specs.Handles.{cache_of}
-use Rattle.shardcache_c.proofs.Opens.{held}
+use Rattle.shardcache_c.specs.Refusals.{RefusesPut}
+use Rattle.shardcache_c.proofs.Opens.{because, held}
 use Rattle.shardcache_c.proofs.exports.storing.shardcache_put_pieces.Goals as goal
 
 pub returns-clause-done : goal.returns-clause-done
 returns-clause-done c = λ done. let did = c.put_pieces-code.ensures.done done in
     (did.0, did.1, held c.in-Some.ensures.taken.0 c.deref_mut.ensures.value did.2, ap cache_of c.put.ensures ∙ did.3, did.4)
+
+pub returns-clause-why : goal.returns-clause-why
+returns-clause-why c = λ no.
+    because (RefusesPut c.put_pieces-code.result c.args.table c.args.key.now (length c.args.first.now + length c.args.second.now)) c.in-Some.ensures.taken.0 c.deref_mut.ensures.value (c.put_pieces-code.ensures.why no)
