@@ -5,7 +5,7 @@
 
 A cache whose SEGMENTS segments (default 1,000) are full, but for two, and of whose rows half were erased at random, is
 compacted until no segment is sparse. Beside it stand the copies alone: as many objects, from a list of their places
-into other memory. The least user and system time of RUNS runs (default 5), less that of a run without the moves; the
+into other memory. The least user and system time of RUNS runs (default 15), less that of a run without the moves; the
 two take turns.
 """
 import re
@@ -28,7 +28,7 @@ def moved_by(words):
     return int(re.search(r"moved (\d+)", ran.stdout)[1])
 
 
-def measured(segments=1_000, runs=5):
+def measured(segments=1_000, runs=15):
     """Of each length of a value and of both, the size of an object, how many moved, and nanoseconds for each."""
     commands = {"compact": [timed(*BUILDS), "compaction"], "memcpy": [compiled("copy_objects")]}
     for length in (100, 1_000, 10_000):
@@ -41,7 +41,7 @@ def measured(segments=1_000, runs=5):
 
 
 def main():
-    for name, length, size, moved, spent in measured(*numbers(__doc__, 1_000, 5)):
+    for name, length, size, moved, spent in measured(*numbers(__doc__, 1_000, 15)):
         print(
             f"{name:<8} value {length:5d}, object {size:5d} bytes: {moved:7d} moved, "
             f"{spent:7.1f} ns each, {spent / size:6.3f} ns a byte",

@@ -3,12 +3,12 @@
 
     bench/turn.py [TURNS] [RUNS]        at most 1,000,000 turns, which is the default
 
-The least user and system time of RUNS runs (default 7), less that of a run that makes no turn.
+The least user and system time of RUNS runs (default 15), less that of a run that makes no turn.
 """
 from timing import nanoseconds, numbers, timed
 
 
-def measured(turns=1_000_000, runs=7):
+def measured(turns=1_000_000, runs=15):
     """Nanoseconds of a part by itself, of a turn that does it, and of an idle turn."""
     program = timed("turns", "1000", "turns")
     steps = ("store", "parts", "node", "turns", "wait", "idle")
@@ -17,7 +17,7 @@ def measured(turns=1_000_000, runs=7):
 
 
 def main():
-    part, turn, idle = measured(*numbers(__doc__, 1_000_000, 7))
+    part, turn, idle = measured(*numbers(__doc__, 1_000_000, 15))
     print(f"a part by itself {part:.1f} ns, a turn that does it {turn:.1f} ns, an idle turn {idle:.1f} ns")
 
 
