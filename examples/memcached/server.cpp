@@ -76,7 +76,7 @@ bool make_workers(Server &server, std::size_t count, int listener) {
     return server.workers[0]->accept_from(listener);
 }
 
-// A worker's thread: a shard is opened, used and closed on it.
+// A worker's thread: its shard is opened and closed on it.
 void work(Worker &worker, std::uint32_t pages, std::promise<Code> opened) {
     Code code = worker.open_shard(pages);
     opened.set_value(code);

@@ -2,6 +2,7 @@
 
 #include <algorithm>
 #include <cstring>
+#include <thread>
 
 using namespace std::literals;
 using shardcache::Code;
@@ -23,16 +24,28 @@ void Counts::add(const Counts &other) {
 
 Code Shard::open(std::uint32_t pages, std::int64_t started) {
     cas_ = dead_cas_ = std::uint64_t(started) << 20;
-    now_ = started;
-    return cache_.open({.pages = pages, .rows = pages * 40, .waiting = UINT32_MAX});
+    Code code = cache_.open({.pages = pages, .rows = pages * 40, .waiting = UINT32_MAX});
+    if (code == Code::Done) unlock();
+    return code;
 }
 
-void Shard::set_now(std::int64_t seconds) {
-    now_ = seconds;
+Code Shard::close() {
+    lock();
+    return cache_.close();
+}
+
+void Shard::lock() {
+    for (unsigned tries = 1; !try_lock(); tries++)
+        if (tries % 1024 == 0) std::this_thread::yield();
+}
+
+bool Shard::try_lock() { return !is_used_.load(std::memory_order_relaxed) && !is_used_.exchange(true, std::memory_order_acquire); }
+
+void Shard::unlock() { is_used_.store(false, std::memory_order_release); }
+
+void Shard::execute(const Command &command, std::int64_t now, std::string &answer) {
+    now_ = now;
     if (flush_at_ && now_ >= flush_at_) flush(0);
-}
-
-void Shard::execute(const Command &command, std::string &answer) {
     switch (command.verb) {
     case Verb::Get:
     case Verb::Gets:

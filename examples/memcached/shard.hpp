@@ -1,9 +1,11 @@
-// One shard's rows, and what a command does to them. Its worker alone uses it.
+// One shard's rows, and what a command does to them. One thread uses it at a time, and locks it for a command: its worker's, or another
+// that found it free.
 #ifndef SHARD_HPP
 #define SHARD_HPP
 
 #include "command.hpp"
 
+#include <atomic>
 #include <optional>
 #include <string>
 
@@ -17,14 +19,17 @@ struct Counts {
 
 class Shard {
   public:
-    // `started`, the second in which the server started, keeps numbers for cas that a server before it gave from fitting.
+    // `started`, the second in which the server started, keeps numbers for cas that a server before it gave from fitting. From then until it
+    // closes the shard may be locked.
     shardcache::Code open(std::uint32_t pages, std::int64_t started);
-    shardcache::Code close() { return cache_.close(); }
+    shardcache::Code close();
 
-    void set_now(std::int64_t seconds);
+    void lock();
+    bool try_lock();
+    void unlock();
 
-    // Does a command, or its part of one that is for all, and adds the answer; of the latter there is none.
-    void execute(const Command &command, std::string &answer);
+    // Does a command, or its part of one that is for all, in the second `now`, and adds the answer; of the latter there is none.
+    void execute(const Command &command, std::int64_t now, std::string &answer);
     Counts counts();
 
   private:
@@ -44,6 +49,7 @@ class Shard {
     void expire_at(std::string_view key, std::int64_t expires);
     std::uint32_t second_of(std::int64_t expires) const;
 
+    std::atomic<bool> is_used_{true};
     shardcache::Cache cache_;
     std::uint64_t cas_ = 0;
     std::uint64_t dead_cas_ = 0;  // rows with a number up to it were flushed

@@ -32,8 +32,9 @@ Code Worker::open_mailbox() { return inbox_.open(mailbox_places); }
 
 Code Worker::share_mailbox(Worker &with) { return inbox_.share(with.ways_.emplace_back().mailbox); }
 
+// Each wake is an event of its own, so that nobody has to read what was written.
 bool Worker::listen_to_wakes() {
-    epoll_event event{EPOLLIN, {.ptr = &wake_}};
+    epoll_event event{EPOLLIN | EPOLLET, {.ptr = &wake_}};
     return epoll_ctl(poll_, EPOLL_CTL_ADD, wake_, &event) == 0;
 }
 
@@ -50,7 +51,6 @@ void Worker::wake() {
 
 void Worker::set_now() {
     now_ = seconds_now();
-    shard_.set_now(now_);
     if (accepts_again_ && now_ >= accepts_again_) {
         accepts_again_ = 0;
         epoll_event event{EPOLLIN, {.ptr = &listener_}};
@@ -62,10 +62,10 @@ void Worker::serve() {
     std::array<epoll_event, 256> events;
     while (!server_.is_stopping.load(std::memory_order_relaxed)) {
         set_now();
-        bool is_busy = take_messages(most_messages);
+        bool may_have_more = take_messages(most_messages) == most_messages;
         go_on_with_touched();
         push_held_and_wake();
-        int count = epoll_wait(poll_, events.data(), int(events.size()), wait_time(is_busy));
+        int count = epoll_wait(poll_, events.data(), int(events.size()), wait_time(may_have_more));
         is_asleep_.store(false);
         set_now();
         for (int i = 0; i < count; i++) handle(events[i]);
@@ -77,10 +77,10 @@ void Worker::serve() {
 
 // How long to wait for an event. Who pushes a message asks behind that whether its owner sleeps, and who goes to sleep looks behind
 // saying so whether a message came: one of the two sees the other.
-int Worker::wait_time(bool is_busy) {
-    if (is_busy || holds_any()) return 0;
+int Worker::wait_time(bool may_have_more) {
+    if (may_have_more || holds_any()) return 0;
     is_asleep_.exchange(true);
-    if (!take_messages(1)) return 1000;
+    if (take_messages(1) == 0) return 1000;
     is_asleep_.store(false);
     go_on_with_touched();
     push_held_and_wake();
@@ -88,10 +88,8 @@ int Worker::wait_time(bool is_busy) {
 }
 
 void Worker::handle(const epoll_event &event) {
-    if (event.data.ptr == &wake_) {
-        std::uint64_t count;
-        [[maybe_unused]] ssize_t read_ = read(wake_, &count, sizeof count);
-    } else if (event.data.ptr == &listener_) {
+    if (event.data.ptr == &wake_) return;
+    if (event.data.ptr == &listener_) {
         accept_some();
     } else {
         Connection &connection = *static_cast<Connection *>(event.data.ptr);
@@ -253,13 +251,22 @@ void Worker::put_back(Request &request) {
     idle_.push_back(&request);
 }
 
+// For its own shard a worker waits. Another's it uses where nobody does at the moment, which costs less than to wake that one's worker,
+// but behind no command of its connection that is still on its way: the two could change places.
+std::unique_lock<Shard> Worker::use_of(Worker &owner, const Connection &connection) {
+    if (&owner == this) return std::unique_lock(shard_);
+    if (connection.outstanding > 0) return {};
+    return std::unique_lock(owner.shard_, std::try_to_lock);
+}
+
 void Worker::perform(Connection &connection, const Command &command) {
     if (is_for_all(command.verb)) return ask_all(connection, command);
     Worker &owner = server_.owner_of(command.key);
-    if (&owner == this && !connection.first) {
+    std::unique_lock use = use_of(owner, connection);
+    if (use && !connection.first) {
         std::string &text = connection.output.text;
         std::size_t len = text.size();
-        shard_.execute(command, text);
+        owner.shard_.execute(command, now_, text);
         if (command.noreply) text.resize(len);
         return;
     }
@@ -267,8 +274,8 @@ void Worker::perform(Connection &connection, const Command &command) {
     request.command = command;
     request.connection = &connection;
     connection.add(request);
-    if (&owner == this) {
-        shard_.execute(command, request.answer);
+    if (use) {
+        owner.shard_.execute(command, now_, request.answer);
         request.is_done = true;
     } else {
         connection.outstanding++;
@@ -318,8 +325,8 @@ bool Worker::holds_any() const {
     return false;
 }
 
-// Whether any came.
-bool Worker::take_messages(std::size_t most) {
+// How many came.
+std::size_t Worker::take_messages(std::size_t most) {
     std::size_t taken = 0;
     while (taken < most) {
         Request *request = inbox_.try_pop();
@@ -327,7 +334,7 @@ bool Worker::take_messages(std::size_t most) {
         take_message(*request);
         taken++;
     }
-    return taken > 0;
+    return taken;
 }
 
 // A request that is to be done here, or one of this worker that was done.
@@ -337,7 +344,8 @@ void Worker::take_message(Request &request) {
         if (request.greeted >= 0) {
             greet(request.greeted);
         } else {
-            shard_.execute(request.command, request.answer);
+            std::scoped_lock use(shard_);
+            shard_.execute(request.command, now_, request.answer);
             if (request.command.verb == Verb::Stats) {
                 request.counts = shard_.counts();
                 request.counts.connections = connections_.size();

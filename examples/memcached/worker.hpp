@@ -10,6 +10,7 @@
 #include <atomic>
 #include <deque>
 #include <memory>
+#include <mutex>
 #include <sys/epoll.h>
 #include <unordered_map>
 #include <vector>
@@ -47,11 +48,12 @@ class Worker {
     void post(Worker &to, Request &request);
     void push_held_and_wake();
     bool holds_any() const;
-    bool take_messages(std::size_t most);
+    std::size_t take_messages(std::size_t most);
     void take_message(Request &request);
     void come_home(Request &request);
-    int wait_time(bool is_busy);
+    int wait_time(bool may_have_more);
 
+    std::unique_lock<Shard> use_of(Worker &owner, const Connection &connection);
     void perform(Connection &connection, const Command &command);
     void ask_all(Connection &connection, const Command &command);
     void say(Connection &connection, std::string_view text);
