@@ -19,7 +19,7 @@ PAGE = f"{TOP}/docs/GATE.md"
 FIRST_PAGE, ALL = f"{TOP}/README.md", f"{TOP}/docs/gate.csv"
 KINDS = ("proof", "tests", "start", "edits")
 # How many crates have a line of their own; the others have one together.
-SHOWN = 11
+SHOWN = 8
 TICKS = os.sysconf("SC_CLK_TCK")
 
 
