@@ -4,7 +4,7 @@
     make times
     ./times.py [-r ROUNDS] [--write]
 
-The programs run in turn, ROUNDS times (default 5); the least time counts. With --write the table is put into README.md, between the marks
+The programs run in turn, ROUNDS times (default 9); the least time counts. With --write the table is put into README.md, between the marks
 that stand there: over the library itself, never over the fake, and with no other work on the machine.
 """
 import argparse
@@ -64,7 +64,7 @@ def row(line, rounds):
 
 def main():
     words = argparse.ArgumentParser(description=__doc__, formatter_class=argparse.RawDescriptionHelpFormatter)
-    words.add_argument("-r", dest="rounds", type=int, default=5)
+    words.add_argument("-r", dest="rounds", type=int, default=9)
     words.add_argument("--write", action="store_true")
     told = words.parse_args()
     if told.write and is_over_the_fake(PROGRAM):
